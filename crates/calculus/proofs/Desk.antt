@@ -1,0 +1,124 @@
+-- The desk's verdict is a function of the steps: whether a step follows is decided, and there is exactly one verdict.
+use mathlib.Core.Path.{_≡_, refl, sym, ap}
+use mathlib.Core.Option.{Option, none, some}
+use mathlib.Core.List.{List, [], _∷_, map}
+use Prim.Native.Nat.{ℕ, zero, suc, _+_, _<_, compare, Ordering, Ordering·lt, Ordering·eq, Ordering·gt}
+use native.Mathlib.Omega.{arith}
+use native.Mathlib.Decide.{decLt}
+use lib.ListN.{length}
+use Rattle.formula.proofs.Compare.{Stands, stands}
+use Rattle.calculus.specs.Judgement.{Step}
+use Rattle.calculus.specs.Rules.{Rule, stepAt, judgementAt, AllBelow, Follows, Valid, Verdict, pass, fail, Judges, passes, fails}
+use Rattle.calculus.specs.Truth.{True}
+use Rattle.calculus.specs.Parse.{readLedger}
+use Rattle.calculus.specs.Desk.{Judged, judged, onSteps, deskAnswer, Passes}
+use Rattle.calculus.proofs.Sound.{valid-true}
+use Rattle.calculus.proofs.Rows.{rule?}
+
+-- Whether all references are below n, and whether a step follows, is decided.
+unfoldable pub below? : (n : ℕ) (is : List ℕ) → Dec (AllBelow n is)
+below? n [] = yes tt
+below? n (i ∷ is) = both (decLt i n) (below? n is)
+  where
+    both : Dec (i < n) → Dec (AllBelow n is) → Dec ((i < n) × AllBelow n is)
+    both (yes p) (yes q) = yes (p, q)
+    both (yes p) (no q) = no (λ h. q (h .1))
+    both (no p) d = no (λ h. p (h .0))
+
+unfoldable pub follows? : (L : List Step) (n : ℕ) (s : Step) → Dec (Follows L n s)
+follows? L n s = both (below? n (s .references)) (rule? (s .kind) (map (judgementAt L) (s .references)) (s .judgement))
+  where
+    both : Dec (AllBelow n (s .references)) → Dec (Rule (s .kind) (map (judgementAt L) (s .references)) (s .judgement)) → Dec (Follows L n s)
+    both (yes p) (yes q) = yes (record { earlier = p; rule = q })
+    both (yes p) (no q) = no (λ f. q (f .rule))
+    both (no p) d = no (λ f. p (f .earlier))
+
+-- Steps below n follow.
+abbrev pub Up : List Step → ℕ → Type 0
+Up L n = (j : ℕ) → j < n → Follows L j (stepAt L j)
+
+pub one-more : {L : List Step} (n : ℕ) → Up L n → Follows L n (stepAt L n) → Up L (suc n)
+one-more {L} n h f j b = go (compare j n) (stands j n)
+  where
+    go : (o : Ordering) → Stands o j n → Follows L j (stepAt L j)
+    go Ordering·lt l = h j l
+    go Ordering·eq l = rw l f
+    go Ordering·gt l = absurd (omega arith)
+
+unfoldable pub judgeFrom : (L : List Step) (n k : ℕ) → n + k ≡ length L → Up L n → Judged L
+judgeFrom L n zero e h = record { verdict = pass (length L); judges = passes (λ i b. h i (omega arith)) }
+judgeFrom L n (suc k) e h = go (follows? L n (stepAt L n)) (λ f. judgeFrom L (suc n) k (omega arith) (one-more n h f))
+  where
+    go : Dec (Follows L n (stepAt L n)) → (Follows L n (stepAt L n) → Judged L) → Judged L
+    go (yes f) next = next f
+    go (no f) next = record { verdict = fail n; judges = fails {i = n} (omega arith) h f }
+
+unfoldable pub judge : (L : List Step) → Judged L
+judge L = judgeFrom L 0 (length L) (omega arith) (λ j b. absurd (omega arith))
+
+-- The desk's verdict.
+unfoldable pub desk : List Step → Verdict
+desk L = (judge L) .verdict
+
+pub desk-judges : (L : List Step) → Judges L (desk L)
+unfolding desk
+desk-judges L = (judge L) .judges
+
+-- There is no other.
+one-verdict : {L : List Step} {v w : Verdict} → Judges L v → Judges L w → v ≡ w
+one-verdict (passes p) (passes q) = refl
+one-verdict (passes p) (fails {i} b h f) = absurd (f (p i b))
+one-verdict (fails {i} b h f) (passes p) = absurd (f (p i b))
+one-verdict (fails {i} b h f) (fails {i = j} c g e) = go (compare i j) (stands i j)
+  where
+    go : (o : Ordering) → Stands o i j → fail i ≡ fail j
+    go Ordering·lt l = absurd (f (g i l))
+    go Ordering·eq l = ap fail l
+    go Ordering·gt l = absurd (e (h j l))
+
+pub judges-desk : {L : List Step} {v : Verdict} → Judges L v → v ≡ desk L
+judges-desk {L} j = one-verdict j (desk-judges L)
+
+-- A verdict that all steps passed says that the ledger is valid.
+pub judges-valid : {L : List Step} {n : ℕ} → Judges L (pass n) → Valid L
+judges-valid (passes p) = p
+
+-- The desk passes a ledger exactly when it is valid, and answers the number of its steps.
+pub valid-passes : {L : List Step} → Valid L → desk L ≡ pass (length L)
+valid-passes v = sym (judges-desk (passes v))
+
+pub passes-valid : (L : List Step) (n : ℕ) → desk L ≡ pass n → Valid L
+passes-valid L n e = judges-valid (rw e at (desk-judges L))
+
+judged-as : {v w : Verdict} → judged v ≡ judged w → v ≡ w
+judged-as e = cc
+
+-- So each judgement of a ledger that it passes is true, whoever wrote it.
+pub passed-true : (L : List Step) (n : ℕ) → desk L ≡ pass n → (i : ℕ) → i < length L → True (judgementAt L i)
+passed-true L n e = valid-true (passes-valid L n e)
+
+-- On bytes ------------------------------------------------------------------------------------
+
+-- Every function that judges gives the same answer.
+pub any-judge : (f g : (L : List Step) → Judged L) (l : List ℕ) → deskAnswer f l ≡ deskAnswer g l
+unfolding deskAnswer
+any-judge f g l = go (readLedger l)
+  where
+    go : (o : Option (List Step)) → onSteps f o ≡ onSteps g o
+    go none = refl
+    go (some L) = ap judged (one-verdict ((f L) .judges) ((g L) .judges))
+
+-- A ledger that passes is answered the number of its steps, and only such a ledger is answered a number.
+pub passes-answer : (f : (L : List Step) → Judged L) (l : List ℕ) (p : Passes l) → deskAnswer f l ≡ judged (pass (length (p .steps)))
+unfolding deskAnswer
+passes-answer f l p = rw (p .reads) (ap judged (one-verdict ((f (p .steps)) .judges) (p .verdict)))
+
+pub answer-passes : (f : (L : List Step) → Judged L) (l : List ℕ) (n : ℕ) → deskAnswer f l ≡ judged (pass n) → Passes l
+unfolding deskAnswer
+answer-passes f l n e = go (readLedger l) refl e
+  where
+    go : (o : Option (List Step)) → readLedger l ≡ o → onSteps f o ≡ judged (pass n) → Passes l
+    go none r e = absurd (let z : _≡_ {A = ℕ} 0 1 = cc in omega arith)
+    go (some L) r e =
+        let v : (f L) .verdict ≡ pass n = judged-as e in
+        record { steps = L; reads = r; verdict = passes (judges-valid (rw v at ((f L) .judges))) }

@@ -1,0 +1,14 @@
+pub mod Judgement
+pub mod Table
+pub mod Rules
+pub mod Truth
+pub mod Search
+pub mod Lattice
+pub mod Record
+pub mod Parse
+pub mod Emit
+pub mod Calls
+pub mod Refusal
+pub mod Door
+pub mod Desk
+pub mod Demand

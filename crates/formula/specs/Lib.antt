@@ -1,0 +1,6 @@
+pub mod Formula
+pub mod Operations
+pub mod Bytes
+pub mod Answers
+pub mod Walks
+pub mod Passes

@@ -1,0 +1,116 @@
+// Prefix-byte formulas of both sorts: places, measuring, parts of a slice, and the operations on bytes.
+mod bytes;
+mod node;
+mod results;
+mod rewrite;
+mod sides;
+mod walk;
+mod weigh;
+
+pub use bytes::put;
+pub use bytes::same;
+pub use results::boundary;
+pub use results::boundary_size;
+pub use results::forall;
+pub use results::forall_size;
+pub use results::transform;
+pub use results::transform_size;
+pub use walk::formula_at;
+pub use walk::measure;
+ghost use mathlib.Core.Path.{_≡_};
+ghost use Rattle.formula.specs.Answers.{stepOf};
+
+// The two sorts of formula.
+pub enum Sort {
+    Faces,
+    Intervals,
+}
+
+// The length in bytes, the node count and the bound of a formula.
+pub struct Size {
+    pub len: usize,
+    pub nodes: usize,
+    pub bound: usize,
+}
+
+// What a slice is found to be: exactly one formula, or not.
+pub enum Measured {
+    Formula(Size),
+    Ill,
+}
+
+// The operations on dimensions, with their cutoff: shift, and substitution of the interval that stands beside it.
+pub enum Op {
+    DShift(usize),
+    DSubst(usize),
+}
+
+// The size of a result: of operands that are formulas within the limits, and within the limits itself.
+pub enum Sized {
+    Ill,
+    Over,
+    Fits(Size),
+}
+
+// What became of a result: no formulas, over the limits, larger than the lent slice, or written there.
+pub enum Outcome {
+    Ill,
+    Over,
+    Short(Size),
+    Done(Size),
+}
+
+// A place in a row of prefix formulas: `pending` of them are still to come from byte `at` on.
+pub struct Place {
+    pub at: usize,
+    pub pending: usize,
+}
+
+// One node further: the node's kind, a literal's dimension, and the place behind it.
+pub enum Step {
+    Leaf(Place),
+    Lit(Place, usize),
+    One(Place),
+    Two(Place),
+    Stuck,
+}
+
+impl Place {
+    // Where one formula is to come.
+    pub fn start(at: usize) -> Place
+        ensures { λ r. ⌜ (r .at ≡ at) × (r .pending ≡ 1) ⌝ }
+    {
+        Place { at, pending: 1 }
+    }
+
+    // Over one node of a formula of the sort. Each pending formula takes a byte or more, so too few bytes lead nowhere.
+    pub fn step(self, sort: Sort, s: &[u8]) -> Step
+        ensures { λ r. ⌜ r ≡ stepOf sort (now (s .entry)) (self .at) (self .pending) ⌝ }
+    {
+        let at = self.at;
+        let pending = self.pending;
+        if pending == 0 {
+            return Step::Stuck;
+        }
+        if s.len() < at {
+            return Step::Stuck;
+        }
+        if s.len() - at < pending {
+            return Step::Stuck;
+        }
+        let next = at + 1;
+        match node::kind_of(sort, s[at]) {
+            node::Kind::Nullary => Step::Leaf(Place {
+                at: next,
+                pending: pending - 1,
+            }),
+            node::Kind::Literal => node::literal_step(s, next, pending - 1),
+            node::Kind::Unary => Step::One(Place { at: next, pending }),
+            node::Kind::Binary => Step::Two(Place {
+                at: next,
+                pending: pending + 1,
+            }),
+            node::Kind::Unknown => Step::Stuck,
+        }
+    }
+}

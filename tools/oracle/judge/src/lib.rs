@@ -1,0 +1,22 @@
+//! The published Rust as judge: see README.md beside the workspace.
+pub mod bench;
+pub mod call;
+pub mod check;
+pub mod cost;
+pub mod desk;
+pub mod door;
+pub mod exhaustive;
+pub mod fixed;
+pub mod formula;
+pub mod ledger;
+pub mod lists;
+pub mod meaning;
+pub mod operations;
+pub mod random;
+pub mod rules;
+pub mod sample;
+pub mod selftest;
+pub mod session;
+pub mod text;
+pub mod watch;
+pub mod worst;

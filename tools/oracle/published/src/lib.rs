@@ -1,0 +1,7 @@
+//! The published source as a crate of its own: its paths start at `crate::`.
+//! Only the two stubs are ours.
+#![allow(dead_code, unused_imports, unused_variables, clippy::all)]
+
+pub mod constant;
+pub mod lex;
+include!(concat!(env!("OUT_DIR"), "/published.rs"));
