@@ -12,7 +12,7 @@ use lib.ListN.{length, getD, take, drop, length-append, length-drop, drop-of-len
 use lib.Seq.{drop-cons, take-at}
 use borrow.Author.Tests.{le-leb, lt-leb, leb-true, leb-false, eq-eqb, ne-eqb}
 use Rattle.formula.specs.Bytes.{Tree, dimWidth, dimAt, encode, Node, leaf, lit, one, two, bad, nodeOf, Got, nothing, got, then, takeDim, front, read, wholly, readAll, nodes, bound}
-use Rattle.formula.specs.Answers.{pick, literalStep, stepBy, stepOf, sizeOf, measuredAs, measured, bytesOf, partAt}
+use Rattle.formula.specs.Answers.{pick, literalStep, stepBy, stepOf, sizeOf, measuredAs, measured, frontSize, measuredAt, bytesOf, partAt}
 use Rattle.formula.specs.Walks.{counted, turnOf, readRow, overTree, passed, finish, walkedAt}
 use Rattle.formula.specs.declared.Sort.{Sort}
 use Rattle.formula.specs.declared.Size.{Size}
@@ -202,6 +202,19 @@ module _ (s : Sort) where
       go (got t (b ∷ m)) e =
           let h : 0 + length (encode s t) ≡ length l → ⊥ = λ i. omega (arith, simp length-append at (ap length (encode-read s l t (b ∷ m) e))) in
           rw (ne-eqb (0 + length (encode s t)) (length l) h)
+
+  -- the size of the formula that the walk passed over
+  abbrev pub sizeFrom : ℕ → Turn → Measured
+  sizeFrom at Broken = Ill
+  sizeFrom at (On w) = Formula (record { len = w .at - at; nodes = w .nodes; bound = w .bound })
+
+  pub measure-at-law : (l : List ℕ) (at : ℕ) → measuredAt s l at ≡ sizeFrom at (walkedAt s l at)
+  unfolding measuredAt walkedAt readRow passed
+  measure-at-law l at = go (read s (drop at l))
+    where
+      go : (r : Got (Tree s)) → frontSize s r ≡ sizeFrom at (finish s (record { at = at; pending = 1; nodes = 0; bound = 0 }) (then r (λ t m. got (t ∷ []) m)))
+      go nothing = refl
+      go (got t m) = ap Formula (size-eq (omega arith) (omega arith) (omega arith))
 
   -- the part of the list that the walk passed over
   abbrev pub Part : List ℕ → ℕ → List ℕ → Turn → Type 0

@@ -61,6 +61,14 @@ measuredAs s (some t) = Formula (sizeOf s t)
 unfoldable pub measured : Sort → List ℕ → Measured
 measured s l = measuredAs s (readAll s l)
 
+abbrev pub frontSize : (s : Sort) → Got (Tree s) → Measured
+frontSize s nothing = Ill
+frontSize s (got t l) = Formula (sizeOf s t)
+
+-- The size of the formula that starts at a place.
+unfoldable pub measuredAt : Sort → List ℕ → ℕ → Measured
+measuredAt s l at = frontSize s (read s (drop at l))
+
 abbrev pub bytesOf : (s : Sort) → Got (Tree s) → List ℕ
 bytesOf s nothing = []
 bytesOf s (got t l) = encode s t

@@ -22,8 +22,8 @@ pub fn same(a: &[u8], b: &[u8]) -> bool
     true
 }
 
-// Copies all of src into out from `at` on.
-pub(crate) fn copy(src: &[u8], out: &mut [u8], at: usize)
+// Copies all of src into out from `at` on, where it fits.
+pub fn copy(src: &[u8], out: &mut [u8], at: usize)
     requires { ⌜ at + length (now src) ≤ length (now out) ⌝ }
     ensures { λ _. ⌜ now (out .exit) ≡ sets (now (out .entry)) at (now (src .entry)) ⌝ }
 {

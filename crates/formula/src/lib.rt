@@ -7,8 +7,12 @@ mod sides;
 mod walk;
 mod weigh;
 
+pub use bytes::copy;
 pub use bytes::put;
 pub use bytes::same;
+pub use node::dim_at;
+pub use node::dim_width;
+pub use node::put_dim;
 pub use results::boundary;
 pub use results::boundary_size;
 pub use results::forall;
@@ -17,6 +21,8 @@ pub use results::transform;
 pub use results::transform_size;
 pub use walk::formula_at;
 pub use walk::measure;
+pub use walk::measure_at;
+pub use weigh::within;
 ghost use mathlib.Core.Path.{_≡_};
 ghost use Rattle.formula.specs.Answers.{stepOf};
 

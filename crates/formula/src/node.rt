@@ -79,8 +79,15 @@ pub(crate) fn is_literal(sort: Sort, b: u8) -> bool
     }
 }
 
+// The width of a dimension's field.
+pub fn dim_width() -> usize
+    ensures { λ r. ⌜ r ≡ dimWidth ⌝ }
+{
+    DIM
+}
+
 // The dimension whose field stands at `at`.
-pub(crate) fn dim_at(s: &[u8], at: usize) -> usize
+pub fn dim_at(s: &[u8], at: usize) -> usize
     requires { ⌜ at + dimWidth ≤ length (now s) ⌝ }
     ensures { λ r. ⌜ (r ≡ dimAt (now (s .entry)) at) × (r < dimSpace) ⌝ }
 {
@@ -88,7 +95,7 @@ pub(crate) fn dim_at(s: &[u8], at: usize) -> usize
 }
 
 // Writes the field of dimension n at `at`.
-pub(crate) fn put_dim(out: &mut [u8], at: usize, n: usize)
+pub fn put_dim(out: &mut [u8], at: usize, n: usize)
     requires { ⌜ (at + dimWidth ≤ length (now out)) × (n < dimSpace) ⌝ }
     ensures { λ _. ⌜ now (out .exit) ≡ sets (now (out .entry)) at (dimBytes n) ⌝ }
 {

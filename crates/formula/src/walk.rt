@@ -7,7 +7,7 @@ use crate::Step;
 ghost use mathlib.Core.Path.{_≡_};
 ghost use Prim.Native.Nat.{_≤_, max};
 ghost use lib.ListN.{length};
-ghost use Rattle.formula.specs.Answers.{measured, partAt};
+ghost use Rattle.formula.specs.Answers.{measured, measuredAt, partAt};
 ghost use Rattle.formula.specs.Walks.{turnOf, walkedAt};
 
 // How far a walk has come, and what it has counted.
@@ -109,6 +109,23 @@ pub fn measure(sort: Sort, s: &[u8]) -> Measured
                 });
             }
             Measured::Ill
+        }
+        Turn::Broken => Measured::Ill,
+    }
+}
+
+// The size of the one formula of the sort that starts at `at`.
+pub fn measure_at(sort: Sort, s: &[u8], at: usize) -> Measured
+    ensures { λ r. ⌜ r ≡ measuredAt sort (now (s .entry)) at ⌝ }
+{
+    match walk_from(sort, s, at) {
+        Turn::On(w) => {
+            let end = w.at;
+            Measured::Formula(Size {
+                len: end - at,
+                nodes: w.nodes,
+                bound: w.bound,
+            })
         }
         Turn::Broken => Measured::Ill,
     }

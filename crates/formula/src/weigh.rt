@@ -164,7 +164,7 @@ pub(crate) fn weigh(sort: Sort, s: &[u8], rule: Rule, hit: Size) -> Size
 }
 
 // Whether a size keeps the limits: 511 nodes, and dimensions to 254.
-pub(crate) fn within(z: Size) -> bool
+pub fn within(z: Size) -> bool
     ensures { λ r. ⌜ r ≡ keeps z ⌝ }
 {
     if 511 < z.nodes {

@@ -1,5 +1,4 @@
 // Large formulas, written byte by byte and with none of the operations.
-use crate::show;
 
 pub(crate) enum Shape {
     Left,
@@ -30,7 +29,7 @@ pub(crate) fn pairs(out: &mut [u8], at: usize, a: &[u8], b: &[u8], times: usize)
     let mut two = [0u8; 16];
     let n = rows(&mut two, 0, a, 1);
     let m = rows(&mut two, n, b, 1);
-    rows(out, at, show::first(&two, m), times)
+    rows(out, at, print::first(&two, m), times)
 }
 
 // 255 nodes with two parts, the first of each the next such node: all of them stand in front of the 256 leaves.
@@ -44,7 +43,7 @@ fn right(out: &mut [u8], pair: &[u8], a: &[u8], b: &[u8]) -> usize {
     let mut two = [0u8; 16];
     let n = pairs(&mut two, 0, pair, a, 1);
     let m = pairs(&mut two, n, pair, b, 1);
-    let o = rows(out, 0, show::first(&two, m), 127);
+    let o = rows(out, 0, print::first(&two, m), 127);
     let e = pairs(out, o, pair, a, 1);
     rows(out, e, b, 1)
 }
@@ -84,8 +83,8 @@ pub(crate) fn tree(shape: Shape, out: &mut [u8], pair: &[u8], a: &[u8], b: &[u8]
 
 pub(crate) fn name(shape: Shape) {
     match shape {
-        Shape::Left => show::text(b"left-deep"),
-        Shape::Right => show::text(b"right-deep"),
-        Shape::Balanced => show::text(b"balanced"),
+        Shape::Left => print::text(b"left-deep"),
+        Shape::Right => print::text(b"right-deep"),
+        Shape::Balanced => print::text(b"balanced"),
     }
 }

@@ -9,9 +9,9 @@ fn face_forall(shape: Shape, s: &[u8]) {
     let mut out = [255u8; 1024];
     let mut want = [0u8; 1024];
     let n = build::tree(shape, &mut want, &[4], &[2, 0], &[0]);
-    show::text(b"  forall 1: ");
+    print::text(b"  forall 1: ");
     let x = formula::forall(s, 1, &mut out);
-    show::compared(x, &out, show::first(&want, n));
+    show::compared(x, &out, print::first(&want, n));
 }
 
 // A transformed formula against the tree with the leaves a and b.
@@ -28,18 +28,18 @@ fn transformed(
     let mut out = [255u8; 1024];
     let mut want = [0u8; 1024];
     let n = build::tree(shape, &mut want, pair, a, b);
-    show::text(label);
+    print::text(label);
     let x = formula::transform(sort, op, s, &[18, 7], &mut out);
-    show::compared(x, &out, show::first(&want, n));
+    show::compared(x, &out, print::first(&want, n));
 }
 
 // The faces 0 and 1' in a tree of fand.
 fn face(shape: Shape) {
     let mut buf = [0u8; 1024];
     let n = build::tree(shape, &mut buf, &[4], &[2, 0], &[3, 1]);
-    let s = show::first(&buf, n);
+    let s = print::first(&buf, n);
     build::name(shape);
-    show::text(b" fand of 0 and 1': ");
+    print::text(b" fand of 0 and 1': ");
     show::measured(formula::measure(Sort::Faces, s));
     face_forall(shape, s);
     transformed(
@@ -69,9 +69,9 @@ fn both(s: &[u8], want0: &[u8], want1: &[u8]) {
     let mut zero = [255u8; 1024];
     let mut one = [255u8; 1024];
     let x = formula::boundary(s, &mut zero, &mut one);
-    show::text(b"  boundary, zero: ");
+    print::text(b"  boundary, zero: ");
     show::compared(x, &zero, want0);
-    show::text(b"  boundary, one: ");
+    print::text(b"  boundary, one: ");
     show::compared(x, &one, want1);
 }
 
@@ -80,16 +80,16 @@ fn sides(shape: Shape, s: &[u8]) {
     let mut one = [0u8; 1024];
     let n = build::tree(shape, &mut zero, &[5], &[2, 0], &[2, 1]);
     let m = build::tree(shape, &mut one, &[4], &[3, 0], &[3, 1]);
-    both(s, show::first(&zero, n), show::first(&one, m));
+    both(s, print::first(&zero, n), print::first(&one, m));
 }
 
 // dim 0 and dim 1 in a tree of meet.
 fn interval(shape: Shape) {
     let mut buf = [0u8; 1024];
     let n = build::tree(shape, &mut buf, &[20], &[18, 0], &[18, 1]);
-    let s = show::first(&buf, n);
+    let s = print::first(&buf, n);
     build::name(shape);
-    show::text(b" meet of dim 0 and dim 1: ");
+    print::text(b" meet of dim 0 and dim 1: ");
     show::measured(formula::measure(Sort::Intervals, s));
     transformed(
         b"  shift at 1: ",
@@ -126,7 +126,7 @@ fn turned_sides(s: &[u8]) {
     let mut one = [0u8; 1024];
     let n = turned_side(&mut zero, &[4, 5], &[2, 0], &[3, 0]);
     let m = turned_side(&mut one, &[5, 4], &[3, 0], &[2, 0]);
-    both(s, show::first(&zero, n), show::first(&one, m));
+    both(s, print::first(&zero, n), print::first(&one, m));
 }
 
 // neg (meet (neg (meet .. (dim 0))) (dim 0)): 170 of each, so each level turns the sides round.
@@ -134,8 +134,8 @@ fn turned() {
     let mut buf = [0u8; 1024];
     let a = build::rows(&mut buf, 0, &[19, 20], 170);
     let e = build::rows(&mut buf, a, &[18, 0], 171);
-    let s = show::first(&buf, e);
-    show::text(b"170 times neg of meet, left-deep: ");
+    let s = print::first(&buf, e);
+    print::text(b"170 times neg of meet, left-deep: ");
     show::measured(formula::measure(Sort::Intervals, s));
     turned_sides(s);
 }
@@ -145,9 +145,9 @@ fn small_boundary(s: &[u8]) {
     let mut zero = [255u8; 4];
     let mut one = [255u8; 4];
     let x = formula::boundary(s, &mut zero, &mut one);
-    show::text(b"  boundary, zero: ");
+    print::text(b"  boundary, zero: ");
     show::result(x, &zero);
-    show::text(b"  boundary, one: ");
+    print::text(b"  boundary, one: ");
     show::result(x, &one);
 }
 
@@ -155,9 +155,9 @@ fn negations(times: usize) {
     let mut buf = [0u8; 1024];
     let n = build::rows(&mut buf, 0, &[19], times);
     let e = build::rows(&mut buf, n, &[18, 0], 1);
-    let s = show::first(&buf, e);
-    show::number(times);
-    show::text(b" times neg of dim 0: ");
+    let s = print::first(&buf, e);
+    print::number(times);
+    print::text(b" times neg of dim 0: ");
     show::measured(formula::measure(Sort::Intervals, s));
     small_boundary(s);
 }
@@ -167,29 +167,29 @@ fn refused_boundary(s: &[u8]) {
     let mut zero = [255u8; 64];
     let mut one = [255u8; 64];
     let x = formula::boundary(s, &mut zero, &mut one);
-    show::text(b"  boundary, zero: ");
+    print::text(b"  boundary, zero: ");
     show::unchanged(x, &zero, &[255u8; 64]);
-    show::text(b"  boundary, one: ");
+    print::text(b"  boundary, one: ");
     show::unchanged(x, &one, &[255u8; 64]);
-    show::text(b"  its size alone: ");
+    print::text(b"  its size alone: ");
     show::sized(formula::boundary_size(s));
 }
 
 fn refused_forall(label: &[u8], s: &[u8], k: usize) {
     let mut out = [255u8; 64];
     let x = formula::forall(s, k, &mut out);
-    show::text(label);
+    print::text(label);
     show::unchanged(x, &out, &[255u8; 64]);
-    show::text(b"  its size alone: ");
+    print::text(b"  its size alone: ");
     show::sized(formula::forall_size(s, k));
 }
 
 fn refused_transform(label: &[u8], sort: Sort, op: Op, s: &[u8], r: &[u8]) {
     let mut out = [255u8; 64];
     let x = formula::transform(sort, op, s, r, &mut out);
-    show::text(label);
+    print::text(label);
     show::unchanged(x, &out, &[255u8; 64]);
-    show::text(b"  its size alone: ");
+    print::text(b"  its size alone: ");
     show::sized(formula::transform_size(sort, op, s, r));
 }
 
@@ -219,8 +219,8 @@ fn node_over() {
     let n = build::rows(&mut buf, 0, &[19], 1);
     let m = build::rows(&mut buf, n, &[20], 255);
     let e = build::rows(&mut buf, m, &[18, 0], 256);
-    let s = show::first(&buf, e);
-    show::text(b"neg of a left-deep meet of 511 nodes: ");
+    let s = print::first(&buf, e);
+    print::text(b"neg of a left-deep meet of 511 nodes: ");
     show::measured(formula::measure(Sort::Intervals, s));
     refused(s);
 }
@@ -230,8 +230,8 @@ fn face_over() {
     let mut buf = [0u8; 1024];
     let n = build::rows(&mut buf, 0, &[4], 256);
     let e = build::rows(&mut buf, n, &[1], 257);
-    let s = show::first(&buf, e);
-    show::text(b"left-deep fand of 513 nodes: ");
+    let s = print::first(&buf, e);
+    print::text(b"left-deep fand of 513 nodes: ");
     show::measured(formula::measure(Sort::Faces, s));
     refused_forall(b"  forall 0: ", s, 0);
     refused_transform(b"  shift at 0: ", Sort::Faces, Op::DShift(0), s, &[]);
@@ -239,7 +239,7 @@ fn face_over() {
 
 // A dimension too high is refused as an operand, even where the operation would lower it.
 fn dimension_over() {
-    show::text(b"dim 255: ");
+    print::text(b"dim 255: ");
     show::measured(formula::measure(Sort::Intervals, &[18, 255]));
     refused(&[18, 255]);
     refused_forall(b"forall 0 of 255: ", &[2, 255], 0);
@@ -249,7 +249,7 @@ fn dimension_over() {
 fn kept(r: &[u8]) {
     let mut out = [255u8; 1024];
     let x = formula::transform(Sort::Intervals, Op::DSubst(1), r, r, &mut out);
-    show::text(b"substitute it for 1 in itself: ");
+    print::text(b"substitute it for 1 in itself: ");
     show::compared(x, &out, r);
 }
 
@@ -259,9 +259,9 @@ fn result_over() {
     let mut face = [0u8; 1024];
     let n = build::tree(Shape::Balanced, &mut interval, &[21], &[18, 0], &[18, 0]);
     let m = build::tree(Shape::Balanced, &mut face, &[4], &[2, 0], &[3, 0]);
-    let r = show::first(&interval, n);
-    let f = show::first(&face, m);
-    show::text(b"an interval of 256 times dim 0 and a face of 256 literals of 0:\n");
+    let r = print::first(&interval, n);
+    let f = print::first(&face, m);
+    print::text(b"an interval of 256 times dim 0 and a face of 256 literals of 0:\n");
     refused_transform(
         b"substitute it for 0 in the face: ",
         Sort::Faces,

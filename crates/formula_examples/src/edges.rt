@@ -9,11 +9,11 @@ fn lent() {
     let mut short = [255u8; 6];
     let mut exact = [255u8; 7];
     let mut long = [255u8; 9];
-    show::text(b"forall 1 of 0 for (1' fand 2) into 6 bytes: ");
+    print::text(b"forall 1 of 0 for (1' fand 2) into 6 bytes: ");
     show::whole(formula::forall(&face, 1, &mut short), &short);
-    show::text(b"  into 7 bytes: ");
+    print::text(b"  into 7 bytes: ");
     show::whole(formula::forall(&face, 1, &mut exact), &exact);
-    show::text(b"  into 9 bytes: ");
+    print::text(b"  into 9 bytes: ");
     show::whole(formula::forall(&face, 1, &mut long), &long);
 }
 
@@ -22,10 +22,10 @@ fn lent_transform() {
     let r = [21, 18, 3, 16];
     let mut short = [255u8; 3];
     let mut long = [255u8; 6];
-    show::text(b"substitute join (dim 3) i0 for 0 in 0' into 3 bytes: ");
+    print::text(b"substitute join (dim 3) i0 for 0 in 0' into 3 bytes: ");
     let x = formula::transform(Sort::Faces, Op::DSubst(0), &[3, 0], &r, &mut short);
     show::whole(x, &short);
-    show::text(b"  into 6 bytes: ");
+    print::text(b"  into 6 bytes: ");
     let y = formula::transform(Sort::Faces, Op::DSubst(0), &[3, 0], &r, &mut long);
     show::whole(y, &long);
 }
@@ -33,9 +33,9 @@ fn lent_transform() {
 // The faces of the boundary have 5 bytes each.
 fn both(label: &[u8], zero: &mut [u8], one: &mut [u8]) {
     let x = formula::boundary(&[20, 18, 0, 19, 18, 0], zero, one);
-    show::text(label);
+    print::text(label);
     show::whole(x, zero);
-    show::text(b"  and its one side: ");
+    print::text(b"  and its one side: ");
     show::whole(x, one);
 }
 
@@ -43,7 +43,7 @@ fn lent_boundary() {
     let mut short = [255u8; 4];
     let mut exact = [255u8; 5];
     let mut long = [255u8; 7];
-    show::text(b"boundary of meet (dim 0) (neg (dim 0)):\n");
+    print::text(b"boundary of meet (dim 0) (neg (dim 0)):\n");
     both(
         b"  zero into 4 bytes and one into 7: ",
         &mut short,
@@ -62,11 +62,11 @@ fn lent_boundary() {
 }
 
 fn measure(label: &[u8], s: &[u8]) {
-    show::text(label);
-    show::text(b", as a face: ");
+    print::text(label);
+    print::text(b", as a face: ");
     show::measured(formula::measure(Sort::Faces, s));
-    show::text(label);
-    show::text(b", as an interval: ");
+    print::text(label);
+    print::text(b", as an interval: ");
     show::measured(formula::measure(Sort::Intervals, s));
 }
 
@@ -87,14 +87,14 @@ fn measures() {
 
 fn forall(label: &[u8], s: &[u8]) {
     let mut out = [255u8; 4];
-    show::text(label);
+    print::text(label);
     let x = formula::forall(s, 0, &mut out);
     show::whole(x, &out);
 }
 
 fn transform(label: &[u8], sort: Sort, op: Op, s: &[u8], r: &[u8]) {
     let mut out = [255u8; 4];
-    show::text(label);
+    print::text(label);
     let x = formula::transform(sort, op, s, r, &mut out);
     show::whole(x, &out);
 }
@@ -102,10 +102,10 @@ fn transform(label: &[u8], sort: Sort, op: Op, s: &[u8], r: &[u8]) {
 fn boundary(label: &[u8], s: &[u8]) {
     let mut zero = [255u8; 4];
     let mut one = [255u8; 4];
-    show::text(label);
+    print::text(label);
     let x = formula::boundary(s, &mut zero, &mut one);
     show::whole(x, &zero);
-    show::text(b"  and its one side: ");
+    print::text(b"  and its one side: ");
     show::whole(x, &one);
 }
 
@@ -152,24 +152,24 @@ fn ill() {
 }
 
 fn places() {
-    show::text(b"steps over 0 for (1' fand 2):\n");
+    print::text(b"steps over 0 for (1' fand 2):\n");
     show::steps(Sort::Faces, &[5, 2, 0, 4, 3, 1, 2, 2], 0, 6);
-    show::text(b"steps over meet i1 (neg (dim 9)) behind a byte:\n");
+    print::text(b"steps over meet i1 (neg (dim 9)) behind a byte:\n");
     show::steps(Sort::Intervals, &[0, 20, 17, 19, 18, 9], 1, 5);
-    show::text(b"a step over a literal cut short:\n");
+    print::text(b"a step over a literal cut short:\n");
     show::steps(Sort::Faces, &[2], 0, 1);
-    show::text(b"steps over a fand with a part missing:\n");
+    print::text(b"steps over a fand with a part missing:\n");
     show::steps(Sort::Faces, &[4, 1], 0, 3);
-    show::text(b"a step over the other sort's byte:\n");
+    print::text(b"a step over the other sort's byte:\n");
     show::steps(Sort::Faces, &[16], 0, 1);
-    show::text(b"a step past the end:\n");
+    print::text(b"a step past the end:\n");
     show::steps(Sort::Faces, &[0], 2, 1);
 }
 
 fn part(label: &[u8], sort: Sort, s: &[u8], at: usize) {
-    show::text(label);
-    show::bytes(formula::formula_at(sort, s, at));
-    show::text(b"\n");
+    print::text(label);
+    print::bytes(formula::formula_at(sort, s, at));
+    print::text(b"\n");
 }
 
 fn parts() {
@@ -195,8 +195,8 @@ fn parts() {
 }
 
 fn same(label: &[u8], a: &[u8], b: &[u8]) {
-    show::text(label);
-    show::yes_no(formula::same(a, b));
+    print::text(label);
+    print::yes_no(formula::same(a, b));
 }
 
 fn sames() {
@@ -210,10 +210,10 @@ fn sames() {
 fn put(label: &[u8], src: &[u8], at: usize) {
     let mut out = [255u8; 4];
     let is_put = formula::put(src, &mut out, at);
-    show::text(label);
-    show::bytes(&out);
-    show::text(b", put: ");
-    show::yes_no(is_put);
+    print::text(label);
+    print::bytes(&out);
+    print::text(b", put: ");
+    print::yes_no(is_put);
 }
 
 fn puts() {

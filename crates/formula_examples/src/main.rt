@@ -11,7 +11,7 @@ use formula::Sort;
 // ∀k of a face.
 fn forall(label: &[u8], s: &[u8], k: usize) {
     let mut out = [255u8; 16];
-    show::text(label);
+    print::text(label);
     let x = formula::forall(s, k, &mut out);
     show::result(x, &out);
 }
@@ -19,7 +19,7 @@ fn forall(label: &[u8], s: &[u8], k: usize) {
 // A shift, or the substitution of the interval r.
 fn transform(label: &[u8], sort: Sort, op: Op, s: &[u8], r: &[u8]) {
     let mut out = [255u8; 16];
-    show::text(label);
+    print::text(label);
     let x = formula::transform(sort, op, s, r, &mut out);
     show::result(x, &out);
 }
@@ -28,17 +28,17 @@ fn transform(label: &[u8], sort: Sort, op: Op, s: &[u8], r: &[u8]) {
 fn boundary(label: &[u8], s: &[u8]) {
     let mut zero = [255u8; 16];
     let mut one = [255u8; 16];
-    show::text(label);
+    print::text(label);
     let x = formula::boundary(s, &mut zero, &mut one);
     show::result(x, &zero);
-    show::text(b"  and its one side: ");
+    print::text(b"  and its one side: ");
     show::result(x, &one);
 }
 
 fn foralls() {
     let face = [5, 2, 0, 4, 3, 1, 2, 2];
     forall(b"forall 1 of 0 for (1' fand 2): ", &face, 1);
-    show::text(b"  its size alone: ");
+    print::text(b"  its size alone: ");
     show::sized(formula::forall_size(&face, 1));
     forall(b"forall 0 of the same: ", &face, 0);
     forall(b"forall 7 of the same: ", &face, 7);
@@ -49,7 +49,7 @@ fn foralls() {
 fn boundaries() {
     let interval = [20, 18, 0, 19, 18, 0];
     boundary(b"boundary of meet (dim 0) (neg (dim 0)): ", &interval);
-    show::text(b"  its size alone: ");
+    print::text(b"  its size alone: ");
     show::sized(formula::boundary_size(&interval));
     boundary(
         b"boundary of join i0 (neg (neg i1)): ",
@@ -80,7 +80,7 @@ fn shifts() {
         &[2, 254],
         &[],
     );
-    show::text(b"  its size alone: ");
+    print::text(b"  its size alone: ");
     show::sized(formula::transform_size(Sort::Faces, Op::DShift(0), &[2, 254], &[]));
     transform(
         b"shift at 255 of 254: ",
@@ -128,7 +128,7 @@ fn substitutions() {
         &[3, 0],
         &r,
     );
-    show::text(b"  its size alone: ");
+    print::text(b"  its size alone: ");
     show::sized(formula::transform_size(Sort::Faces, Op::DSubst(0), &[3, 0], &r));
     transform(
         b"substitute the same for 0 in 0: ",
@@ -151,7 +151,7 @@ fn substitutions() {
         &[20, 19, 18, 1, 21, 18, 0, 18, 2],
         &r,
     );
-    show::text(b"  its size alone: ");
+    print::text(b"  its size alone: ");
     show::sized(formula::transform_size(
         Sort::Intervals,
         Op::DSubst(1),

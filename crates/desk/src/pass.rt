@@ -1,0 +1,61 @@
+// The step desk: whether bytes are a ledger, and whether each of its steps follows.
+use crate::Verdict;
+use crate::claims;
+use crate::index;
+use ledger::Checked;
+use ledger::Cursor;
+ghost use mathlib.Core.Path.{_≡_};
+ghost use Prim.Native.Nat.{_<_};
+ghost use lib.ListN.{length};
+ghost use Rattle.calculus.specs.Rules.{stepAt, Follows};
+ghost use Rattle.calculus.specs.Desk.{judged, deskAnswer};
+ghost use Rattle.calculus.proofs.Desk.{judge, desk};
+ghost use Rattle.ledger.specs.Ledger.{stepsOf, Led, Points};
+ghost use Rattle.desk.specs.Standing.{Decides};
+ghost use Rattle.desk.specs.Walking.{Indexed};
+ghost use Rattle.desk.specs.Verdicts.{answerAs, Answers};
+
+// Whether the step follows from its references by the rule of its kind.
+fn follows_at(l: &[u8], index: &[usize; 10923], c: Cursor) -> bool
+    requires { ⌜ Points (now l) (c .step) (c .at) × Indexed (stepsOf (now l)) (c .step) (now index) ⌝ }
+    ensures { λ r. ⌜ Decides r (Follows (stepsOf (now (l .entry))) (c .step) (stepAt (stepsOf (now (l .entry))) (c .step))) ⌝ }
+{
+    let mut preds: [usize; 4] = [0; 4];
+    let mut from: [usize; 4] = [0; 4];
+    let mut to: [usize; 4] = [0; 4];
+    claims::claim_step(l, c, 0, &mut preds, &mut from, &mut to);
+    let n = claims::reference_count(l, c);
+    claims::claim_references(l, index, c, n, &mut preds, &mut from, &mut to);
+    crate::follows(l, c.kind(l), &preds, &from, &to, n)
+}
+
+// The verdict on the n steps of a ledger.
+fn judge_steps(l: &[u8], n: usize) -> Verdict
+    requires { ⌜ Led (now l) × (n ≡ length (stepsOf (now l))) ⌝ }
+    ensures { λ r. ⌜ r ≡ answerAs (judged (desk (stepsOf (now (l .entry))))) ⌝ }
+{
+    let mut index: [usize; 10923] = [0; 10923];
+    let mut step: usize = 0;
+    let mut at: usize = 4;
+    while step < n {
+        let c = Cursor { step, at };
+        let e = c.next(l);
+        if !follows_at(l, &index, c) {
+            return Verdict::Fails(step);
+        }
+        index::note(&mut index, step, at);
+        step = e.step;
+        at = e.at;
+    }
+    Verdict::Passes(step)
+}
+
+// The step desk.
+pub fn step_desk(l: &[u8]) -> Verdict
+    ensures { λ r. ⌜ Answers (deskAnswer judge (now (l .entry))) r ⌝ }
+{
+    match ledger::well_formed(l) {
+        Checked::Steps(n) => judge_steps(l, n),
+        Checked::Ill => Verdict::Ill,
+    }
+}

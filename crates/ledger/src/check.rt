@@ -1,0 +1,68 @@
+// Question 1: whether bytes are a well-formed ledger, in one pass; and the part of them that is a judgement.
+use crate::Checked;
+use crate::steps;
+ghost use mathlib.Core.Path.{_≡_};
+ghost use Rattle.calculus.specs.Parse.{readLedger, operandsAt};
+ghost use Rattle.ledger.specs.Checks.{counted, recordsIn};
+
+// The number of the steps whose records fill the bytes.
+fn count_records(s: &[u8]) -> Checked
+    ensures { λ r. ⌜ r ≡ recordsIn (now (s .entry)) ⌝ }
+{
+    let mut at: usize = 0;
+    let mut i: usize = 0;
+    while at < s.len() {
+        if s.len() - at < 4 {
+            return Checked::Ill;
+        }
+        let n = records::get4(s, at);
+        let from = at + 4;
+        if s.len() - from < n {
+            return Checked::Ill;
+        }
+        let to = from + n;
+        if !records::body_fits(&s[from..to], i) {
+            return Checked::Ill;
+        }
+        at = to;
+        i += 1;
+    }
+    Checked::Steps(i)
+}
+
+// The number of steps, exactly where the bytes are a well-formed ledger.
+pub fn well_formed(l: &[u8]) -> Checked
+    ensures { λ r. ⌜ r ≡ counted (readLedger (now (l .entry))) ⌝ }
+{
+    if l.len() < 4 {
+        return Checked::Ill;
+    }
+    if 1048576 < l.len() {
+        return Checked::Ill;
+    }
+    let n = records::get4(l, 0);
+    if l.len() - 4 < n {
+        return Checked::Ill;
+    }
+    let end = 4 + n;
+    if !records::zeros_from(l, end) {
+        return Checked::Ill;
+    }
+    count_records(&l[4..end])
+}
+
+// The bytes of the judgement of step i, a part of the caller's own slice; the empty part past the end, or where the
+// bytes are no ledger.
+pub fn operands(l: &[u8], i: usize) -> &[u8]
+    ensures { λ r. ⌜ now r ≡ operandsAt (now (l .entry)) i ⌝ }
+{
+    match well_formed(l) {
+        Checked::Steps(n) => {
+            if i < n {
+                return steps::seek(l, i).operands(l);
+            }
+            &l[..0]
+        }
+        Checked::Ill => &l[..0],
+    }
+}

@@ -1,0 +1,53 @@
+use borrow.Author.Needs.{needs}
+use Rattle.search.proofs.closings.by_member.Statement.{statement}
+use Rattle.search.proofs.closings.by_member.Tie as tie
+use native.Mathlib.Omega.{arith}
+use mathlib.Core.Path.{refl, sym, ap, _∙_}
+use borrow.Author.Tests.{not-true, not-false}
+use Rattle.steps.proofs.RunLaws.{runs-led}
+use Rattle.search.proofs.ClosingLaws.{cover-short, by-member-stop, by-member-up}
+
+member-requires : tie.Need-member-requires
+member-requires c κs = search needs
+
+is-done-requires : tie.Need-is-done-requires
+is-done-requires c κs = search needs
+
+same-length : tie.Need-same-length
+same-length c = search needs
+
+returns : tie.Need-returns
+returns c = by-member-stop _ _ _ _ (c .before .before .before .before .member .ensures) (sym (c .before .is-done .ensures) ∙ not-true _ (c .if1 .taken))
+
+step-of-requires : tie.Need-step-of-requires
+step-of-requires c κs = search needs
+
+count-requires : tie.Need-count-requires
+count-requires c κs = search needs
+
+slice-aggregate-emit3 : tie.Need-slice-aggregate-emit3
+slice-aggregate-emit3 c = search needs
+
+emit3-requires : tie.Need-emit3-requires
+emit3-requires c κs = (runs-led (c .before .before .before .before .before .before .before .before .member .ensures), cover-short (c .before .before .before .before .before .before .before .before .before .before .before .before .before .before .pre .2) (c .before .before .before .before .before .before .before .before .before .before .before .before .before .before .pre .3) (c .before .count .ensures))
+
+same-length-2 : tie.Need-same-length-2
+same-length-2 c = search needs
+
+returns-2 : tie.Need-returns-2
+returns-2 c = by-member-up _ _ _ _ (c .before .before .before .before .before .before .before .before .before .before .before .before .before .before .before .before .before .pre .2) (c .before .before .before .before .before .before .before .before .before .before .before .before .before .before .before .before .before .pre .3) (c .before .before .before .before .before .before .before .before .before .before .before .before .before .before .before .before .before .pre .4) (c .before .before .before .before .before .before .before .before .before .before .before .member .ensures) (sym (c .before .before .before .before .before .before .before .before .is-done .ensures) ∙ not-false _ (c .before .before .before .before .before .before .before .if1 .left)) (c .before .before .before .before .before .step-of .ensures) (c .before .before .before .before .count .ensures) (c .before .before .emit3 .ensures)
+
+pub by-member-spec : {M : Type 1} → statement M
+by-member-spec =
+    tie.close
+    (tie.spec
+    member-requires
+    is-done-requires
+    same-length
+    returns
+    step-of-requires
+    count-requires
+    slice-aggregate-emit3
+    emit3-requires
+    same-length-2
+    returns-2)

@@ -1,0 +1,58 @@
+// Moves that leave nothing to search: the goal or ff is in the context, or two literals clash.
+use crate::contexts;
+use crate::members;
+use crate::moves;
+use steps::Ran;
+ghost use mathlib.Core.Path.{_≡_};
+ghost use mathlib.Core.List.{[], _∷_};
+ghost use Prim.Native.Nat.{_<_};
+ghost use Rattle.formula.specs.declared.Sort.the-variants.{Faces};
+ghost use Rattle.calculus.specs.Judgement.{member, cover};
+ghost use Rattle.calculus.specs.Rules.{Rule};
+ghost use Rattle.ledger.specs.Ledger.{Led};
+ghost use Rattle.steps.specs.Running.{Runs};
+ghost use Rattle.steps.specs.Trees.{treeOf, Known};
+ghost use Rattle.search.specs.Contexts.{contextOf, Context};
+ghost use Rattle.search.specs.Turns.{coverBy, coverClash};
+
+// The cover step of this kind, from the step that f is in the context.
+pub(crate) fn by_member(l: &mut [u8], kind: usize, f: &[u8], n: usize, g: &[u8], goal: &[u8]) -> Ran
+    requires { ⌜ Led (now l) × Known Faces (now f) × Context n (now g) × Known Faces (now goal) × Rule kind (member (treeOf Faces (now f)) (contextOf n (now g)) ∷ []) (cover (contextOf n (now g)) (treeOf Faces (now goal))) ⌝ }
+    ensures { λ r. ⌜ Runs (now (l .entry)) (coverBy kind (treeOf Faces (now (f .entry))) (contextOf n (now (g .entry))) (treeOf Faces (now (goal .entry)))) r (now (l .exit)) ⌝ }
+{
+    let r = members::member(l, f, n, g);
+    if !steps::is_done(r) {
+        return r;
+    }
+    steps::emit3(
+        l,
+        kind,
+        [steps::step_of(r), 0, 0],
+        &contexts::count(n),
+        g,
+        goal,
+    )
+}
+
+// The cover step from the clash of two literals at dimension k.
+pub(crate) fn by_clash(l: &mut [u8], k: usize, n: usize, g: &[u8], goal: &[u8]) -> Ran
+    requires { ⌜ Led (now l) × (k < 255) × Context n (now g) × Known Faces (now goal) ⌝ }
+    ensures { λ r. ⌜ Runs (now (l .entry)) (coverClash k (contextOf n (now (g .entry))) (treeOf Faces (now (goal .entry)))) r (now (l .exit)) ⌝ }
+{
+    let r = members::member(l, &moves::literal(2, k), n, g);
+    if !steps::is_done(r) {
+        return r;
+    }
+    let s = members::member(l, &moves::literal(3, k), n, g);
+    if !steps::is_done(s) {
+        return s;
+    }
+    steps::emit3(
+        l,
+        24,
+        [steps::step_of(r), steps::step_of(s), 0],
+        &contexts::count(n),
+        g,
+        goal,
+    )
+}

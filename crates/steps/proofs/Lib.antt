@@ -1,0 +1,10 @@
+pub mod RunLaws
+pub mod PartLaws
+pub mod CompareLaws
+pub mod TreeLaws
+pub mod NodeLaws
+pub mod BelowLaws
+pub mod ResultLaws
+pub mod BoundaryLaws
+pub mod ForallLaws
+pub mod TransformLaws

@@ -1,0 +1,113 @@
+use borrow.Author.Needs.{needs}
+use Rattle.steps.proofs.parts.emit.Statement.{statement}
+use Rattle.steps.proofs.parts.emit.Tie as tie
+use native.Mathlib.Omega.{arith}
+use mathlib.Core.Path.{_≡_, refl, sym, ap, _∙_}
+use lib.ListN.{length, length-replicate, replicate, length-append}
+use mathlib.Core.List.{List, _++_}
+use Prim.Native.Nat.{ℕ}
+use Rattle.steps.proofs.RunLaws.{emits-number, emits-full}
+use Rattle.steps.proofs.PartLaws.{five-parts, five-length}
+
+add-j : tie.Need-add-j
+add-j c = search needs
+
+add-k : tie.Need-add-k
+add-k c = search needs
+
+add-m : tie.Need-add-m
+add-m c = search needs
+
+add-n : tie.Need-add-n
+add-n c = search needs
+
+slice-aggregate-copy : tie.Need-slice-aggregate-copy
+slice-aggregate-copy c = search needs
+
+copy-requires : tie.Need-copy-requires
+copy-requires c κs = search needs
+
+slice-aggregate-copy-2 : tie.Need-slice-aggregate-copy-2
+slice-aggregate-copy-2 c = search needs
+
+copy-requires-2 : tie.Need-copy-requires-2
+copy-requires-2 c κs = search needs
+
+slice-aggregate-copy-3 : tie.Need-slice-aggregate-copy-3
+slice-aggregate-copy-3 c = search needs
+
+copy-requires-3 : tie.Need-copy-requires-3
+copy-requires-3 c κs = search needs
+
+slice-aggregate-copy-4 : tie.Need-slice-aggregate-copy-4
+slice-aggregate-copy-4 c = search needs
+
+copy-requires-4 : tie.Need-copy-requires-4
+copy-requires-4 c κs = search needs
+
+slice-aggregate-copy-5 : tie.Need-slice-aggregate-copy-5
+slice-aggregate-copy-5 c = search needs
+
+copy-requires-5 : tie.Need-copy-requires-5
+copy-requires-5 c κs = search needs
+
+array-share-prefix-operands : tie.Need-array-share-prefix-operands
+array-share-prefix-operands c = search needs
+
+slice-aggregate-emit-step : tie.Need-slice-aggregate-emit-step
+slice-aggregate-emit-step c = let a = c .before .before .before .before .before .before .before .before .before .before .before .before .before .before .before .before .before .before .before .before .before .before .before .args in
+    let h = five-parts (replicate 4096 0) (a .a .now) (a .b .now) (a .c .now) (a .d .now) (a .e .now) _ _ _ _ _ (omega (arith, c .before .before .before .before .before .before .before .before .before .before .before .before .before .before .before .before .before .before .before .before .before .before .before .pre .1, length-replicate {A = ℕ} 4096 0)) (c .before .before .before .before .before .before .before .before .before .before .before .before .before .before .before .copy .ensures) (c .before .before .before .before .before .before .before .before .before .before .before .before .copy2 .ensures) (c .before .before .before .before .before .before .before .before .before .copy3 .ensures) (c .before .before .before .before .before .before .copy4 .ensures) (c .before .before .before .copy5 .ensures) in
+    sym (ap length h ∙ five-length (a .a .now) (a .b .now) (a .c .now) (a .d .now) (a .e .now))
+
+emit-step-requires : tie.Need-emit-step-requires
+emit-step-requires c κs = search needs
+
+enum-known-i : tie.Need-enum-known-i
+enum-known-i c = search needs
+
+enum-told : tie.Need-enum-told
+enum-told c = search needs
+
+same-length : tie.Need-same-length
+same-length c = search needs
+
+returns : tie.Need-returns
+returns c = let a = c .before .before .before .before .before .before .before .before .before .before .before .before .before .before .before .before .before .before .before .before .before .before .before .before .before .before .before .before .before .args in
+    let h = five-parts (replicate 4096 0) (a .a .now) (a .b .now) (a .c .now) (a .d .now) (a .e .now) _ _ _ _ _ (omega (arith, c .before .before .before .before .before .before .before .before .before .before .before .before .before .before .before .before .before .before .before .before .before .before .before .before .before .before .before .before .before .pre .1, length-replicate {A = ℕ} 4096 0)) (c .before .before .before .before .before .before .before .before .before .before .before .before .before .before .before .before .before .before .before .before .before .copy .ensures) (c .before .before .before .before .before .before .before .before .before .before .before .before .before .before .before .before .before .before .copy2 .ensures) (c .before .before .before .before .before .before .before .before .before .before .before .before .before .before .before .copy3 .ensures) (c .before .before .before .before .before .before .before .before .before .before .before .before .copy4 .ensures) (c .before .before .before .before .before .before .before .before .before .copy5 .ensures) in
+    emits-number (a .l .now) (c .before .before .before .before .before .emit-step .last .0) (c .before .before .before .before .before .before .before .before .before .before .before .before .before .before .before .before .before .before .before .before .before .before .before .before .before .before .before .before .before .pre .0) (a .kind) (a .references) (a .a .now ++ (a .b .now ++ (a .c .now ++ (a .d .now ++ a .e .now)))) _ h _ _ (c .before .i .given .1) (c .before .before .before .before .before .emit-step .ensures)
+
+same-length-2 : tie.Need-same-length-2
+same-length-2 c = search needs
+
+returns-2 : tie.Need-returns-2
+returns-2 c = let a = c .before .before .before .before .before .before .before .before .before .before .before .before .before .before .before .before .before .before .before .before .before .before .before .before .before .before .before .before .args in
+    let h = five-parts (replicate 4096 0) (a .a .now) (a .b .now) (a .c .now) (a .d .now) (a .e .now) _ _ _ _ _ (omega (arith, c .before .before .before .before .before .before .before .before .before .before .before .before .before .before .before .before .before .before .before .before .before .before .before .before .before .before .before .before .pre .1, length-replicate {A = ℕ} 4096 0)) (c .before .before .before .before .before .before .before .before .before .before .before .before .before .before .before .before .before .before .before .before .copy .ensures) (c .before .before .before .before .before .before .before .before .before .before .before .before .before .before .before .before .before .copy2 .ensures) (c .before .before .before .before .before .before .before .before .before .before .before .before .before .before .copy3 .ensures) (c .before .before .before .before .before .before .before .before .before .before .before .copy4 .ensures) (c .before .before .before .before .before .before .before .before .copy5 .ensures) in
+    emits-full (a .l .now) (c .before .before .before .before .emit-step .last .0) (c .before .before .before .before .before .before .before .before .before .before .before .before .before .before .before .before .before .before .before .before .before .before .before .before .before .before .before .before .pre .0) (a .kind) (a .references) (a .a .now ++ (a .b .now ++ (a .c .now ++ (a .d .now ++ a .e .now)))) _ h _ (c .enum-told .given .1) (c .before .before .before .before .emit-step .ensures)
+
+pub emit-spec : {M : Type 1} → statement M
+emit-spec =
+    tie.close
+    (tie.spec
+    add-j
+    add-k
+    add-m
+    add-n
+    slice-aggregate-copy
+    copy-requires
+    slice-aggregate-copy-2
+    copy-requires-2
+    slice-aggregate-copy-3
+    copy-requires-3
+    slice-aggregate-copy-4
+    copy-requires-4
+    slice-aggregate-copy-5
+    copy-requires-5
+    array-share-prefix-operands
+    slice-aggregate-emit-step
+    emit-step-requires
+    enum-known-i
+    enum-told
+    same-length
+    returns
+    same-length-2
+    returns-2)

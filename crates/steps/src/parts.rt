@@ -1,0 +1,65 @@
+// The emit rule for operands that stand in several slices.
+use crate::Ran;
+use ledger::Emitted;
+ghost use mathlib.Core.Path.{_≡_};
+ghost use mathlib.Core.List.{_++_};
+ghost use Prim.Native.Nat.{_+_, _≤_};
+ghost use lib.ListN.{length, drop};
+ghost use Rattle.ledger.specs.Ledger.{Led};
+ghost use Rattle.steps.specs.Running.{Emits};
+
+// Emits the step of this kind whose operands are the five parts, one after another; a part may be empty.
+pub fn emit(
+    l: &mut [u8],
+    kind: usize,
+    references: [usize; 3],
+    a: &[u8],
+    b: &[u8],
+    c: &[u8],
+    d: &[u8],
+    e: &[u8],
+) -> Ran
+    requires { ⌜ Led (now l) × (length (now a) + length (now b) + length (now c) + length (now d) + length (now e) ≤ 4096) ⌝ }
+    ensures { λ r. ⌜ Emits (now (l .entry)) kind references (now (a .entry) ++ (now (b .entry) ++ (now (c .entry) ++ (now (d .entry) ++ now (e .entry))))) r (now (l .exit)) ⌝ }
+{
+    let mut operands = [0u8; 4096];
+    let i = a.len();
+    let j = i + b.len();
+    let k = j + c.len();
+    let m = k + d.len();
+    let n = m + e.len();
+    formula::copy(a, &mut operands, 0);
+    formula::copy(b, &mut operands, i);
+    formula::copy(c, &mut operands, j);
+    formula::copy(d, &mut operands, k);
+    formula::copy(e, &mut operands, m);
+    match ledger::emit_step(l, kind, references, &operands[..n]) {
+        Emitted::Step(i) => Ran::Done(i),
+        Emitted::Full => Ran::Full,
+    }
+}
+
+// The same with two parts.
+pub fn emit2(l: &mut [u8], kind: usize, references: [usize; 3], a: &[u8], b: &[u8]) -> Ran
+    requires { ⌜ Led (now l) × (length (now a) + length (now b) ≤ 4096) ⌝ }
+    ensures { λ r. ⌜ Emits (now (l .entry)) kind references (now (a .entry) ++ now (b .entry)) r (now (l .exit)) ⌝ }
+{
+    emit(l, kind, references, a, b, &b[..0], &b[..0], &b[..0])
+}
+
+// The same with three parts.
+pub fn emit3(l: &mut [u8], kind: usize, references: [usize; 3], a: &[u8], b: &[u8], c: &[u8]) -> Ran
+    requires { ⌜ Led (now l) × (length (now a) + length (now b) + length (now c) ≤ 4096) ⌝ }
+    ensures { λ r. ⌜ Emits (now (l .entry)) kind references (now (a .entry) ++ (now (b .entry) ++ now (c .entry))) r (now (l .exit)) ⌝ }
+{
+    emit(l, kind, references, a, b, c, &c[..0], &c[..0])
+}
+
+// What stands behind the first byte and a first part of n bytes.
+pub fn behind(s: &[u8], n: usize) -> &[u8]
+    requires { ⌜ 1 + n ≤ length (now s) ⌝ }
+    ensures { λ r. ⌜ now r ≡ drop (1 + n) (now (s .entry)) ⌝ }
+{
+    let m = 1 + n;
+    &s[m..]
+}
