@@ -87,7 +87,7 @@ local-limited : (d : ℕ) (phi : Face) (r : Interval) (e : End) → d ≤ maxBou
 local-limited d phi r e p q h = (p, (q, (h, (end-of-side e, tt))))
 
 -- What a dimension becomes keeps the limits where the operation, the dimension and the transformed literal do.
-dimTo-small : (o : Op) (e : End) (n : ℕ) → SmallOp o → n < maxBound → Small Faces (ftransform o (at e n)) → Small Intervals (dimTo o n)
+pub dimTo-small : (o : Op) (e : End) (n : ℕ) → SmallOp o → n < maxBound → Small Faces (ftransform o (at e n)) → Small Intervals (dimTo o n)
 unfolding ftransform Operations.boundary nodesFace boundFace nodesInterval boundInterval
 dimTo-small (shift k) e n p q h = omega arith
 dimTo-small (subst k t) e n p q h = go (compare n k)
@@ -97,12 +97,12 @@ dimTo-small (subst k t) e n p q h = go (compare n k)
     go Ordering·eq = p .1
     go Ordering·gt = omega arith
 
-dim-small : (n : ℕ) → n < maxBound → Small Intervals (dim n)
+pub dim-small : (n : ℕ) → n < maxBound → Small Intervals (dim n)
 unfolding nodesInterval boundInterval
 dim-small n h = omega arith
 
 -- A dimension alone is transformed to what it becomes.
-itransform-dim : (o : Op) (n : ℕ) → Small Intervals (dimTo o n) → Small Intervals (itransform o (dim n))
+pub itransform-dim : (o : Op) (n : ℕ) → Small Intervals (dimTo o n) → Small Intervals (itransform o (dim n))
 unfolding itransform
 itransform-dim o n h = h
 

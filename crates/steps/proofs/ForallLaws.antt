@@ -9,7 +9,7 @@ use borrow.Author.Tests.{lt-ltb, le-ltb, ne-eqb}
 use Rattle.formula.specs.declared.Sort.the-variants.{Faces}
 use Rattle.formula.specs.declared.Step.the-variants.{Two}
 use Rattle.formula.specs.declared.Place.{Place}
-use Rattle.formula.specs.Formula.{End, lo, hi, Face, at}
+use Rattle.formula.specs.Formula.{End, Face, at}
 use Rattle.formula.specs.Operations.{forall}
 use Rattle.formula.specs.Bytes.{dimBytes, encode, encodeFace, nodesFace, boundFace}
 use Rattle.formula.specs.Answers.{partAt}
@@ -31,7 +31,7 @@ use Rattle.steps.specs.Trees.{Is, treeOf, Known}
 use Rattle.steps.specs.Programs.{forallKind}
 use Rattle.steps.proofs.RunLaws.{emits-by, emits-kind, runs-emit, runs-stop}
 use Rattle.steps.proofs.TreeLaws.{View}
-use Rattle.steps.proofs.NodeLaws.{Law, AtTwo, AtEnd, at-end, behind}
+use Rattle.steps.proofs.NodeLaws.{Law, AtTwo, AtEnd, at-end, end-kind, behind}
 use Rattle.steps.proofs.ResultLaws.{Cut, Pairs, result-cut}
 
 -- The program and the rule at each kind byte.
@@ -74,11 +74,7 @@ module _ {f out : List ℕ} {q : Place} (k : ℕ) (v : View Faces f (treeOf Face
   pub forall-right : {x y z w : List ℕ} → x ≡ partAt Faces f 1 → y ≡ partAt Faces out 1 → z ≡ drop (1 + length x) f → w ≡ drop (1 + length y) out → w ≡ encode Faces (forall k (treeOf Faces z))
   forall-right i j a b = b ∙ behind out j ∙ forall-cut .right ∙ ap (λ (u : List ℕ). encode Faces (forall k (treeOf Faces u))) (sym (a ∙ behind f i))
 
--- A literal by its dimension beside k: the program, the kind and the rule.
-kind-at : (e : End) (b m x y : ℕ) → b ≡ side e 2 3 → forallKind 2 + m ≡ x → forallKind 3 + m ≡ y → forallKind b + m ≡ side e x y
-kind-at lo b m x y p g h = ap (λ (n : ℕ). forallKind n + m) p ∙ g
-kind-at hi b m x y p g h = ap (λ (n : ℕ). forallKind n + m) p ∙ h
-
+-- A literal by its dimension beside k: the program and the rule.
 below-program : (k n : ℕ) (e : End) → n < k → emitForall k (at e n) ≡ (emitComparison less n k >>= λ i. emit (side e 42 45) (i ∷ []) (foralls k (at e n)))
 unfolding emitForall
 below-program k n e h = ap (emitForallAt k e n) (compare-lt n k h)
@@ -101,7 +97,7 @@ above-rule k (suc n) e h = rw (forall-above e (suc n) k h) (fforall-gt e)
 pub literal-hit : {l l₁ x f : List ℕ} {c : Ran} {i j z n : ℕ} (k : ℕ) (t : Face) → AtEnd f n t → n ≡ k → Limited (foralls k t) → operandBytes (foralls k t) ≡ x
     → Emits l (forallKind (getD f 0 0) + 0) (i ∷ j ∷ z ∷ []) x c l₁ → Runs l (emitForall k t) c l₁
 literal-hit {l} {l₁} {f = f} {c} {n = n} k t (at-end e p) h m o w =
-    subst (λ (y : Program). Runs l y c l₁) (sym (hit-program k n e h)) (emits-by (emits-kind (kind-at e (getD f 0 0) 0 41 44 p refl refl) w) (hit-rule k n e h) [] refl tt m refl o)
+    subst (λ (y : Program). Runs l y c l₁) (sym (hit-program k n e h)) (emits-by (emits-kind (end-kind (λ (m : ℕ). forallKind m + 0) e (getD f 0 0) 41 44 p refl refl) w) (hit-rule k n e h) [] refl tt m refl o)
 
 pub literal-below-stop : {l l₁ f : List ℕ} {c : Ran} {n : ℕ} (k : ℕ) (t : Face) → AtEnd f n t → n < k → Runs l (emitComparison less n k) c l₁ → doneBy c ≡ false → Runs l (emitForall k t) c l₁
 literal-below-stop {l} {l₁} {c = c} {n} k t (at-end e p) h w d =
@@ -114,12 +110,12 @@ literal-above-stop {l} {l₁} {c = c} {n} k t (at-end e p) h w d =
 pub literal-below : {l l₁ l₂ x f : List ℕ} {c s : Ran} {i j z n : ℕ} (k : ℕ) (t : Face) → AtEnd f n t → n < k → Limited (foralls k t) → operandBytes (foralls k t) ≡ x
     → Runs l (emitComparison less n k) c l₁ → doneBy c ≡ true → i ≡ stepBy c → Emits l₁ (forallKind (getD f 0 0) + 1) (i ∷ j ∷ z ∷ []) x s l₂ → Runs l (emitForall k t) s l₂
 literal-below {l} {l₂ = l₂} {f = f} {s = s} {n = n} k t (at-end e p) h m o w d g y =
-    subst (λ (y : Program). Runs l y s l₂) (sym (below-program k n e h)) (runs-emit w d g (emits-kind (kind-at e (getD f 0 0) 1 42 45 p refl refl) y) {q = lt n k} (rw (forall-below e n k h) (fforall-lt e)) m o)
+    subst (λ (y : Program). Runs l y s l₂) (sym (below-program k n e h)) (runs-emit w d g (emits-kind (end-kind (λ (m : ℕ). forallKind m + 1) e (getD f 0 0) 42 45 p refl refl) y) {q = lt n k} (rw (forall-below e n k h) (fforall-lt e)) m o)
 
 pub literal-above : {l l₁ l₂ x f : List ℕ} {c s : Ran} {i j z n : ℕ} (k : ℕ) (t : Face) → AtEnd f n t → k < n → Limited (foralls k t) → operandBytes (foralls k t) ≡ x
     → Runs l (emitComparison less k n) c l₁ → doneBy c ≡ true → i ≡ stepBy c → Emits l₁ (forallKind (getD f 0 0) + 2) (i ∷ j ∷ z ∷ []) x s l₂ → Runs l (emitForall k t) s l₂
 literal-above {l} {l₂ = l₂} {f = f} {s = s} {n = n} k t (at-end e p) h m o w d g y =
-    subst (λ (y : Program). Runs l y s l₂) (sym (above-program k n e h)) (runs-emit w d g (emits-kind (kind-at e (getD f 0 0) 2 43 46 p refl refl) y) (above-rule k n e h) m o)
+    subst (λ (y : Program). Runs l y s l₂) (sym (above-program k n e h)) (runs-emit w d g (emits-kind (end-kind (λ (m : ℕ). forallKind m + 2) e (getD f 0 0) 43 46 p refl refl) y) (above-rule k n e h) m o)
 
 -- The kind of a byte.
 pub kind-first : (b : ℕ) → b < 3 → b + 39 ≡ forallKind b
@@ -130,6 +126,3 @@ kind-third b h = ap forallKind (sym h)
 
 pub kind-last : (b : ℕ) → 3 ≤ b → (b ≡ 3 → ⊥) → b + 43 ≡ forallKind b
 kind-last b h d = rw (le-ltb b 3 h, ne-eqb b 3 d) refl
-
-pub kind-whole : {l l₁ x is : List ℕ} {r : Ran} (b : ℕ) → Emits l (forallKind b + 0) is x r l₁ → Emits l (forallKind b) is x r l₁
-kind-whole b h = let z : forallKind b + 0 ≡ forallKind b = omega arith in emits-kind z h

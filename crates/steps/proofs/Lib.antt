@@ -8,3 +8,4 @@ pub mod ResultLaws
 pub mod BoundaryLaws
 pub mod ForallLaws
 pub mod TransformLaws
+pub mod ImageLaws

@@ -98,6 +98,11 @@ literal-end {f} t (a-lit b n g e j) =
     let k = at-lit Faces HasEnd has-end b g e in
     subst (AtEnd f n) (sym (k .face n)) (at-end (k .end) (ap (λ (x : List ℕ). getD x 0 0) j ∙ k .byte))
 
+-- The kind of a literal's rule by its end.
+pub end-kind : (K : ℕ → ℕ) (e : End) (b x y : ℕ) → b ≡ side e 2 3 → K 2 ≡ x → K 3 ≡ y → K b ≡ side e x y
+end-kind K lo b x y p g h = ap K p ∙ g
+end-kind K hi b x y p g h = ap K p ∙ h
+
 -- No face is a node over one face.
 pub no-one : {A : Type 0} {f : List ℕ} {q : Place} (t : Face) → View Faces f t (One q) → A
 no-one t (a-one b u x e g h) = absurd (at-one Faces (λ b u. ⊥) (record { at0 = tt; at1 = tt; at2 = tt; at3 = tt; at4 = tt; at5 = tt; none = λ b. tt }) b u e)

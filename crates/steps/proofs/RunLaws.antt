@@ -205,6 +205,10 @@ emits-by {kind} h {j} q is n b m t e = emits-as h is j (subst (λ (k : ℕ). Lis
 pub emits-kind : {l l′ : List ℕ} {kind k : ℕ} {references x : List ℕ} {r : Ran} → kind ≡ k → Emits l kind references x r l′ → Emits l k references x r l′
 emits-kind {l} {l′} {references = references} {x} {r} e h = subst (λ (n : ℕ). Emits l n references x r l′) e h
 
+-- The first of several rules.
+pub emits-first : {l l′ : List ℕ} {references x : List ℕ} {r : Ran} (kind : ℕ) → Emits l (kind + 0) references x r l′ → Emits l kind references x r l′
+emits-first kind h = let z : kind + 0 ≡ kind = omega arith in emits-kind z h
+
 -- A step after one run, from the step of that run.
 pub runs-emit : {l l₁ l₂ x : List ℕ} {p : Program} {r c : Ran} {kind i j z : ℕ} → Runs l p r l₁ → doneBy r ≡ true → i ≡ stepBy r → Emits l₁ kind (i ∷ j ∷ z ∷ []) x c l₂
     → {q t : Judgement} → Rule kind (q ∷ []) t → Limited t → operandBytes t ≡ x → Runs l (p >>= λ n. emit kind (n ∷ []) t) c l₂

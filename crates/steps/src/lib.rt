@@ -15,8 +15,7 @@ pub use numbers::number;
 pub use parts::emit;
 pub use parts::emit2;
 pub use parts::emit3;
-pub use transforms::shift_dimension;
-pub use transforms::subst_dimension;
+pub use transforms::transform;
 ghost use mathlib.Core.Path.{_≡_};
 ghost use Rattle.steps.specs.Running.{doneBy, stepBy};
 

@@ -24,10 +24,10 @@ use Rattle.formula.specs.Answers.{partAt}
 use Rattle.calculus.specs.Calls.{foralls, emitForall}
 use Rattle.steps.specs.Trees.{treeOf, Known}
 use Rattle.steps.specs.Programs.{forallKind}
-use Rattle.steps.proofs.RunLaws.{runs-led}
+use Rattle.steps.proofs.RunLaws.{runs-led, emits-first}
 use Rattle.steps.proofs.TreeLaws.{viewed, is-long, is-short}
 use Rattle.steps.proofs.NodeLaws.{part-runs, behind, two-known, two-inside, not-stuck, no-one, leaf-runs, two-stop, two-stop-right, two-runs}
-use Rattle.steps.proofs.ForallLaws.{forall-laws, forall-is, foralls-limited, foralls-bytes, forall-left, forall-right, forall-cut, kind-whole}
+use Rattle.steps.proofs.ForallLaws.{forall-laws, forall-is, foralls-limited, foralls-bytes, forall-left, forall-right, forall-cut}
 
 abbrev μ-forall : Measures 3 forall-kinds.ps ℕ
 μ-forall κs a = length (a .1 .0 .now)
@@ -538,7 +538,7 @@ forall-returns-3 : (t : ℕ) → forall-lts.Need-returns-3 (
   step-of-reads.Asked,
   step-of-reads.Learnt,
 ) (forall-at t) forall.Post
-forall-returns-3 t c = let a = c .before .before .before .before .before .before .before .before .before .before .args in leaf-runs Faces (emitForall (a .k)) (foralls (a .k)) forallKind (forall-laws (a .k)) (treeOf Faces (a .f .now)) (viewed (c .before .before .before .before .before .before .before .before .before .before .pre .1 .1) _ _ (c .before .before .before .before .before .before .step .ensures) (c .before .before .before .before .enum-told .given .1)) (foralls-limited (a .k) (c .before .before .before .before .before .before .before .before .before .before .pre .1 .1) (c .before .before .before .before .before .before .before .before .before .before .pre .1 .3) (c .before .before .before .before .before .before .before .before .before .before .pre .1 .2)) (foralls-bytes (a .k) (c .before .before .before .before .before .before .before .before .before .before .pre .1 .1) (c .before .before .before .before .before .before .before .before .before .before .pre .1 .3)) (kind-whole (getD (a .f .now) 0 0) (c .before .before .forall-whole .ensures))
+forall-returns-3 t c = let a = c .before .before .before .before .before .before .before .before .before .before .args in leaf-runs Faces (emitForall (a .k)) (foralls (a .k)) forallKind (forall-laws (a .k)) (treeOf Faces (a .f .now)) (viewed (c .before .before .before .before .before .before .before .before .before .before .pre .1 .1) _ _ (c .before .before .before .before .before .before .step .ensures) (c .before .before .before .before .enum-told .given .1)) (foralls-limited (a .k) (c .before .before .before .before .before .before .before .before .before .before .pre .1 .1) (c .before .before .before .before .before .before .before .before .before .before .pre .1 .3) (c .before .before .before .before .before .before .before .before .before .before .pre .1 .2)) (foralls-bytes (a .k) (c .before .before .before .before .before .before .before .before .before .before .pre .1 .1) (c .before .before .before .before .before .before .before .before .before .before .pre .1 .3)) (emits-first (forallKind (getD (a .f .now) 0 0)) (c .before .before .forall-whole .ensures))
 
 forall-same-length-4 : (t : ℕ) → forall-lts.Need-same-length-4 (
   step-reads.Asked,
@@ -638,7 +638,7 @@ forall-returns-6 : (t : ℕ) → forall-lts.Need-returns-6 (
   step-of-reads.Asked,
   step-of-reads.Learnt,
 ) (forall-at t) forall.Post
-forall-returns-6 t c = let a = c .before .before .before .before .before .before .before .before .before .before .before .before .before .before .before .before .before .before .before .before .before .before .before .before .before .before .before .before .args in two-runs Faces (emitForall (a .k)) (foralls (a .k)) forallKind (forall-laws (a .k)) (treeOf Faces (a .f .now)) (viewed (c .before .before .before .before .before .before .before .before .before .before .before .before .before .before .before .before .before .before .before .before .before .before .before .before .before .before .before .before .pre .1 .1) _ _ (c .before .before .before .before .before .before .before .before .before .before .before .before .before .before .before .before .before .before .before .before .before .before .before .before .step .ensures) (c .before .before .before .before .before .before .before .before .before .before .before .before .before .before .before .before .before .before .before .before .before .before .enum-told3 .given .1)) (foralls-limited (a .k) (c .before .before .before .before .before .before .before .before .before .before .before .before .before .before .before .before .before .before .before .before .before .before .before .before .before .before .before .before .pre .1 .1) (c .before .before .before .before .before .before .before .before .before .before .before .before .before .before .before .before .before .before .before .before .before .before .before .before .before .before .before .before .pre .1 .3) (c .before .before .before .before .before .before .before .before .before .before .before .before .before .before .before .before .before .before .before .before .before .before .before .before .before .before .before .before .pre .1 .2)) (foralls-bytes (a .k) (c .before .before .before .before .before .before .before .before .before .before .before .before .before .before .before .before .before .before .before .before .before .before .before .before .before .before .before .before .pre .1 .1) (c .before .before .before .before .before .before .before .before .before .before .before .before .before .before .before .before .before .before .before .before .before .before .before .before .before .before .before .before .pre .1 .3)) (part-runs Faces (emitForall (a .k)) (c .before .before .before .before .before .before .before .before .before .before .before .before .before .before .before .before .before .before .before .before .before .formula-at .ensures) (c .before .before .before .before .before .before .before .before .before .before .before .before .before .before .before .before .before .before .forall .ensures)) (sym (c .before .before .before .before .before .before .before .before .before .before .before .before .before .before .before .is-done .ensures) ∙ not-false _ (c .before .before .before .before .before .before .before .before .before .before .before .before .before .before .if1 .left)) (part-runs Faces (emitForall (a .k)) (c .before .before .before .before .before .before .before .before .before .before .before .before .behind .ensures ∙ behind (a .f .now) (c .before .before .before .before .before .before .before .before .before .before .before .before .before .before .before .before .before .before .before .before .before .formula-at .ensures)) (c .before .before .before .before .before .before .before .before .before .before .forall2 .ensures)) (sym (c .before .before .before .before .before .before .before .is-done2 .ensures) ∙ not-false _ (c .before .before .before .before .before .before .if2 .left)) (c .before .before .before .before .step-of .ensures) (c .before .before .before .step-of2 .ensures) (kind-whole (getD (a .f .now) 0 0) (c .before .before .forall-whole2 .ensures))
+forall-returns-6 t c = let a = c .before .before .before .before .before .before .before .before .before .before .before .before .before .before .before .before .before .before .before .before .before .before .before .before .before .before .before .before .args in two-runs Faces (emitForall (a .k)) (foralls (a .k)) forallKind (forall-laws (a .k)) (treeOf Faces (a .f .now)) (viewed (c .before .before .before .before .before .before .before .before .before .before .before .before .before .before .before .before .before .before .before .before .before .before .before .before .before .before .before .before .pre .1 .1) _ _ (c .before .before .before .before .before .before .before .before .before .before .before .before .before .before .before .before .before .before .before .before .before .before .before .before .step .ensures) (c .before .before .before .before .before .before .before .before .before .before .before .before .before .before .before .before .before .before .before .before .before .before .enum-told3 .given .1)) (foralls-limited (a .k) (c .before .before .before .before .before .before .before .before .before .before .before .before .before .before .before .before .before .before .before .before .before .before .before .before .before .before .before .before .pre .1 .1) (c .before .before .before .before .before .before .before .before .before .before .before .before .before .before .before .before .before .before .before .before .before .before .before .before .before .before .before .before .pre .1 .3) (c .before .before .before .before .before .before .before .before .before .before .before .before .before .before .before .before .before .before .before .before .before .before .before .before .before .before .before .before .pre .1 .2)) (foralls-bytes (a .k) (c .before .before .before .before .before .before .before .before .before .before .before .before .before .before .before .before .before .before .before .before .before .before .before .before .before .before .before .before .pre .1 .1) (c .before .before .before .before .before .before .before .before .before .before .before .before .before .before .before .before .before .before .before .before .before .before .before .before .before .before .before .before .pre .1 .3)) (part-runs Faces (emitForall (a .k)) (c .before .before .before .before .before .before .before .before .before .before .before .before .before .before .before .before .before .before .before .before .before .formula-at .ensures) (c .before .before .before .before .before .before .before .before .before .before .before .before .before .before .before .before .before .before .forall .ensures)) (sym (c .before .before .before .before .before .before .before .before .before .before .before .before .before .before .before .is-done .ensures) ∙ not-false _ (c .before .before .before .before .before .before .before .before .before .before .before .before .before .before .if1 .left)) (part-runs Faces (emitForall (a .k)) (c .before .before .before .before .before .before .before .before .before .before .before .before .behind .ensures ∙ behind (a .f .now) (c .before .before .before .before .before .before .before .before .before .before .before .before .before .before .before .before .before .before .before .before .before .formula-at .ensures)) (c .before .before .before .before .before .before .before .before .before .before .forall2 .ensures)) (sym (c .before .before .before .before .before .before .before .is-done2 .ensures) ∙ not-false _ (c .before .before .before .before .before .before .if2 .left)) (c .before .before .before .before .step-of .ensures) (c .before .before .before .step-of2 .ensures) (emits-first (forallKind (getD (a .f .now) 0 0)) (c .before .before .forall-whole2 .ensures))
 
 forall-returns-7 : (t : ℕ) → forall-lts.Need-returns-7 (
   step-reads.Asked,
