@@ -1,8 +1,8 @@
 -- Cover steps from members of the context.
-use Prim.Native.Nat.{ℕ, suc, _+_, _≤_, _<_}
+use Prim.Native.Nat.{ℕ, _+_, _≤_, _<_}
 use native.Mathlib.Omega.{arith}
-use mathlib.Core.Path.{_≡_, refl, sym, ap, ap₂, _∙_, subst, subst₂}
-use mathlib.Core.Bool.{Bool, true, false}
+use mathlib.Core.Path.{_≡_, refl, sym, ap, ap₂, _∙_, subst}
+use mathlib.Core.Bool.{true, false}
 use mathlib.Core.List.{List, [], _∷_, _++_, append-assoc}
 use lib.ListN.{length}
 use Rattle.formula.specs.declared.Sort.the-variants.{Faces}
@@ -11,17 +11,15 @@ use Rattle.formula.specs.Bytes.{dimBytes, encodeFace, nodesFace, boundFace}
 use Rattle.calculus.specs.Judgement.{member, cover}
 use Rattle.calculus.specs.Rules
 use Rattle.calculus.specs.Record.{littleEndian, operandBytes}
-use Rattle.calculus.specs.Emit.{Program, emit, _>>=_}
 use Rattle.calculus.specs.Calls.{emitMember}
 use Rattle.calculus.proofs.Growing.{Limited}
 use Rattle.steps.specs.declared.Ran.{Ran}
 use Rattle.steps.specs.Running.{doneBy, stepBy, Runs, Emits}
 use Rattle.steps.specs.Trees.{Is, treeOf}
-use Rattle.steps.proofs.RunLaws.{runs-next, runs-stop, runs-below, runs-more, emits-by}
 use Rattle.steps.proofs.TreeLaws.{tree-of, is-short}
 use Rattle.search.specs.Contexts.{Are}
 use Rattle.search.specs.Turns.{coverBy, coverClash}
-use Rattle.search.proofs.AfterLaws.{after, after-stop, after-up}
+use Rattle.search.proofs.AfterLaws.{after-stop, after-up, two-stop, two-stop-2, two-up}
 use Rattle.search.proofs.ContextLaws.{context-short, field}
 
 module _ {G : List Face} {g : Face} {n : ℕ} {l k : List ℕ} (w : Are G n l) (a : Is Faces g k) where
@@ -37,9 +35,9 @@ module _ {G : List Face} {g : Face} {n : ℕ} {l k : List ℕ} (w : Are G n l) (
 pub by-member-stop : {l l₁ : List ℕ} {r : Ran} (kind : ℕ) (f : Face) (G : List Face) (g : Face) → Runs l (emitMember f G) r l₁ → doneBy r ≡ false → Runs l (coverBy kind f G g) r l₁
 by-member-stop kind f G g h d = after-stop {kind = kind} {j = cover G g} refl h d
 
-pub by-member-up : {l l₁ l₂ b k c : List ℕ} {r s : Ran} {n i : ℕ} (kind : ℕ) (f : Face) (G : List Face) (g : Face) → Are G n b → Is Faces g k → Rules.Rule kind (member f G ∷ []) (cover G g)
-    → Runs l (emitMember f G) r l₁ → doneBy r ≡ true → i ≡ stepBy r → c ≡ littleEndian 2 n → Emits l₁ kind (i ∷ 0 ∷ 0 ∷ []) (c ++ (b ++ k)) s l₂ → Runs l (coverBy kind f G g) s l₂
-by-member-up kind f G g w a u h d j e t = after-up {kind = kind} {j = cover G g} refl h d j u (cover-limited w a) (cover-bytes w a e) t
+pub by-member-up : {l l₁ l₂ b k : List ℕ} {r s : Ran} {n i : ℕ} (kind : ℕ) (f : Face) (G : List Face) (g : Face) → Are G n b → Is Faces g k → Rules.Rule kind (member f G ∷ []) (cover G g)
+    → Runs l (emitMember f G) r l₁ → doneBy r ≡ true → i ≡ stepBy r → Emits l₁ kind (i ∷ 0 ∷ 0 ∷ []) (operandBytes (cover G g)) s l₂ → Runs l (coverBy kind f G g) s l₂
+by-member-up kind f G g w a u h d j t = after-up {kind = kind} {j = cover G g} refl h d j u (cover-limited w a) refl t
 
 -- The bytes of a literal.
 abbrev byteOf : End → ℕ
@@ -51,30 +49,21 @@ unfolding encodeFace nodesFace boundFace
 literal-is lo k h e = record { bytes = e; few = omega arith; low = omega arith }
 literal-is hi k h e = record { bytes = e; few = omega arith; low = omega arith }
 
-second : ℕ → List Face → Face → ℕ → Program
-second k G g i = emitMember (at hi k) G >>= (λ j. emit 24 (i ∷ j ∷ []) (cover G g))
-
 -- The two literals of a clash.
 module _ (k : ℕ) (G : List Face) (g : Face) {l l₁ m : List ℕ} {r : Ran} (q : k < 255) (e : m ≡ 2 ∷ dimBytes k) (h : Runs l (emitMember (treeOf Faces m) G) r l₁) where
   low : Runs l (emitMember (at lo k) G) r l₁
   low = subst (λ (f : Face). Runs l (emitMember f G) r l₁) (tree-of (literal-is lo k q e)) h
 
   pub clash-stop : doneBy r ≡ false → Runs l (coverClash k G g) r l₁
-  unfolding second
-  clash-stop d = runs-stop (second k G g) low d
+  clash-stop d = two-stop {kind = 24} {j = cover G g} (emitMember (at hi k) G) refl low d
 
   module _ {l₂ m₂ : List ℕ} {s : Ran} (d : doneBy r ≡ true) (e₂ : m₂ ≡ 3 ∷ dimBytes k) (h₂ : Runs l₁ (emitMember (treeOf Faces m₂) G) s l₂) where
     high : Runs l₁ (emitMember (at hi k) G) s l₂
     high = subst (λ (f : Face). Runs l₁ (emitMember f G) s l₂) (tree-of (literal-is hi k q e₂)) h₂
 
     pub clash-stop-2 : doneBy s ≡ false → Runs l (coverClash k G g) s l₂
-    unfolding second
-    clash-stop-2 f = runs-next (second k G g) low d (runs-stop (λ j. emit 24 (stepBy r ∷ j ∷ []) (cover G g)) high f)
+    clash-stop-2 f = two-stop-2 {kind = 24} {j = cover G g} (emitMember (at hi k) G) refl low d high f
 
-    pub clash-up : {l₃ b c x : List ℕ} {t : Ran} {n i j : ℕ} → Are G n b → Is Faces g x → doneBy s ≡ true → i ≡ stepBy r → j ≡ stepBy s → c ≡ littleEndian 2 n
-        → Emits l₂ 24 (i ∷ j ∷ 0 ∷ []) (c ++ (b ++ x)) t l₃ → Runs l (coverClash k G g) t l₃
-    unfolding second
-    clash-up {l₃} {b} {c} {x} {t} w a f i j o v =
-        let v′ : Emits l₂ 24 (stepBy r ∷ stepBy s ∷ 0 ∷ []) (c ++ (b ++ x)) t l₃ = subst₂ (λ (y z : ℕ). Emits l₂ 24 (y ∷ z ∷ 0 ∷ []) (c ++ (b ++ x)) t l₃) i j v in
-        runs-next (second k G g) low d (runs-next (λ j. emit 24 (stepBy r ∷ j ∷ []) (cover G g)) high f
-        (emits-by v′ (Rules.cover-clash {n = k}) (stepBy r ∷ stepBy s ∷ []) refl (omega (arith, runs-below low d, runs-more high), (runs-below high f, tt)) (cover-limited w a) refl (cover-bytes w a o)))
+    pub clash-up : {l₃ b x : List ℕ} {t : Ran} {n i j : ℕ} → Are G n b → Is Faces g x → doneBy s ≡ true → i ≡ stepBy r → j ≡ stepBy s
+        → Emits l₂ 24 (i ∷ j ∷ 0 ∷ []) (operandBytes (cover G g)) t l₃ → Runs l (coverClash k G g) t l₃
+    clash-up w a f i j v = two-up {kind = 24} {j = cover G g} (emitMember (at hi k) G) refl low d high f i j (Rules.cover-clash {n = k}) (cover-limited w a) refl v

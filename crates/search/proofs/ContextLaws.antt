@@ -1,5 +1,5 @@
 -- Contexts on bytes, by their first face.
-use Prim.Native.Nat.{ℕ, zero, suc, _+_, _-_, _*_, _≤_, _<_, max}
+use Prim.Native.Nat.{ℕ, _-_, _*_, _≤_}
 use native.Mathlib.Omega.{arith}
 use mathlib.Core.Path.{_≡_, refl, sym, ap, ap₂, _∙_, subst}
 use mathlib.Core.List.{List, [], _∷_, _++_, append-nil}
@@ -7,13 +7,14 @@ use lib.ListN.{length, take, drop, length-append, length-drop}
 use lib.Seq.{take-all, drop-append-seam}
 use Rattle.formula.specs.declared.Sort.the-variants.{Faces}
 use Rattle.formula.specs.Formula.{Face}
-use Rattle.formula.specs.Bytes.{Got, encodeFace}
+use Rattle.formula.specs.Bytes.{encodeFace}
 use Rattle.formula.specs.Answers.{bytesOf, partAt}
 use Rattle.formula.proofs.Reading.{read-encode}
 use Rattle.calculus.specs.Search.{nodesContext}
 use Rattle.calculus.specs.Record.{littleEndian, context, facesBytes, fieldBytes, boundContext}
 use Rattle.calculus.specs.Parse.{readFaces}
 use Rattle.calculus.proofs.Fields.{read-faces}
+use Rattle.calculus.proofs.Searching.{nodes-positive}
 use Rattle.steps.specs.Trees.{Is}
 use Rattle.steps.proofs.TreeLaws.{long}
 use Rattle.search.specs.Contexts.{Are, facesIn, contextOf, Context}
@@ -34,6 +35,15 @@ faces-long (f ∷ G) = omega (arith, length-append (encodeFace f) (facesBytes G)
 
 pub context-short : {G : List Face} {n : ℕ} {l : List ℕ} → Are G n l → length l ≤ 1022
 context-short {G} h = omega (arith, ap length (h .bytes), faces-long G, h .few)
+
+-- A context has no more faces than nodes.
+faces-few : (G : List Face) → length G ≤ nodesContext G
+unfolding nodesContext
+faces-few [] = omega arith
+faces-few (f ∷ G) = omega (arith, nodes-positive f, faces-few G)
+
+pub context-count : {G : List Face} {n : ℕ} {l : List ℕ} → Are G n l → n ≤ 511
+context-count {G} h = omega (arith, h .count, faces-few G, h .few)
 
 -- The field of a context.
 pub field : {G : List Face} {n : ℕ} {l c : List ℕ} → Are G n l → c ≡ littleEndian 2 n → fieldBytes context G ≡ c ++ l

@@ -6,3 +6,6 @@ pub mod MoveLaws
 pub mod LeftLaws
 pub mod ClosingLaws
 pub mod CoverLaws
+pub mod TurnLaws
+pub mod SplitLaws
+pub mod SearchLaws

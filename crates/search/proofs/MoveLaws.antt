@@ -1,5 +1,5 @@
 -- The tests of a context, face by face.
-use Prim.Native.Nat.{ℕ, zero, suc, _+_, _-_, _≤_, _<_}
+use Prim.Native.Nat.{ℕ, suc, _+_, _-_, _≤_, _<_}
 use native.Mathlib.Omega.{arith}
 use mathlib.Core.Path.{_≡_, refl, sym, ap, ap₂, _∙_, subst, subst₂}
 use mathlib.Core.Bool.{Bool, true, false, _||_, decide, false≢true}
@@ -17,8 +17,8 @@ use Rattle.steps.proofs.TreeLaws.{tree-of, known}
 use Rattle.search.specs.declared.moves.Clash.{Clash}
 use Rattle.search.specs.declared.moves.Clash.the-variants.{Of, Free}
 use Rattle.search.specs.Contexts.{Are, contextOf}
-use Rattle.search.specs.Turns.{clashBy, compound, splitAt, FirstCompound}
-use Rattle.search.proofs.ContextLaws.{context-of, tail, First, first-of}
+use Rattle.search.specs.Turns.{clashBy, compound, FirstCompound}
+use Rattle.search.proofs.ContextLaws.{context-of, tail, first-of}
 use Rattle.search.proofs.MemberLaws.{same-face, other-face}
 
 -- No face is in an empty context.
@@ -51,13 +51,13 @@ module _ {f : Face} {G : List Face} {n : ℕ} {g h k : List ℕ} (a : Is Faces f
   has-there e = let v = first-of G n g h w z p in ap (has f) (context-of (v .others)) ∙ has-other f (v .first) (v .rest) (other-face a (v .face) e) ∙ ap (has f) (sym (v .whole))
 
 -- The first byte of a face.
-abbrev kind : Face → ℕ
+abbrev pub kind : Face → ℕ
 kind x = getD (encodeFace x) 0 0
 
 pub face-some : {x : Face} {l : List ℕ} → Is Faces x l → 0 < length l
 face-some {x} w = omega (arith, ap length (w .bytes), encode-pos Faces x)
 
-first-byte : {x : Face} {l : List ℕ} → Is Faces x l → getD l 0 0 ≡ kind x
+pub first-byte : {x : Face} {l : List ℕ} → Is Faces x l → getD l 0 0 ≡ kind x
 first-byte w = ap (λ (m : List ℕ). getD m 0 0) (w .bytes)
 
 -- A constant and a compound do not clash.

@@ -2,14 +2,14 @@
 use Prim.Native.Nat.{ℕ, zero, suc, _+_, _-_, _≤_, _<_, max}
 use native.Mathlib.Omega.{arith}
 use mathlib.Core.Path.{_≡_, refl, sym, ap, ap₂, _∙_, subst}
-use mathlib.Core.Bool.{Bool, true, false}
+use mathlib.Core.Bool.{true, false}
 use mathlib.Core.List.{List, [], _∷_, _++_, append-assoc}
 use lib.ListN
 use lib.ListN.{length, getD, drop, length-append}
 use lib.Seq.{split-at}
 use Rattle.formula.specs.declared.Sort.the-variants.{Faces}
 use Rattle.formula.specs.Formula.{Face, ff}
-use Rattle.formula.specs.Bytes.{encodeFace, nodesFace, boundFace}
+use Rattle.formula.specs.Bytes.{nodesFace, boundFace}
 use Rattle.formula.specs.Answers.{partAt}
 use Rattle.calculus.specs.Judgement.{Judgement, take}
 use Rattle.calculus.specs.Rules
@@ -28,12 +28,12 @@ use Rattle.search.proofs.AfterLaws.{after, after-stop, after-up}
 use Rattle.search.proofs.ContextLaws.{context-of, context-short, field, tail, tail-append, First, first-of}
 
 -- What is left of a context.
-record Less (i : ℕ) (G : List Face) : Type 0 where
-  count : length G ≡ suc (length (leave i G))
-  nodes : nodesContext G ≡ nodesFace (getD G i ff) + nodesContext (leave i G)
-  bound : boundContext G ≡ max (boundFace (getD G i ff)) (boundContext (leave i G))
+pub record Less (i : ℕ) (G : List Face) : Type 0 where
+  pub count : length G ≡ suc (length (leave i G))
+  pub nodes : nodesContext G ≡ nodesFace (getD G i ff) + nodesContext (leave i G)
+  pub bound : boundContext G ≡ max (boundFace (getD G i ff)) (boundContext (leave i G))
 
-less : (i : ℕ) (G : List Face) → i < length G → Less i G
+pub less : (i : ℕ) (G : List Face) → i < length G → Less i G
 unfolding nodesContext boundContext
 less i [] h = absurd (omega arith)
 less zero (f ∷ G) h = record { count = refl; nodes = refl; bound = refl }

@@ -3,7 +3,7 @@ ghost use mathlib.Core.Path.{_≡_};
 ghost use Rattle.calculus.specs.Record.{littleEndian};
 
 // The two bytes of a count.
-pub fn count(n: usize) -> [u8; 2]
+pub(crate) fn count(n: usize) -> [u8; 2]
     ensures { λ r. ⌜ r ≡ littleEndian 2 n ⌝ }
 {
     let mut field = [0u8; 2];

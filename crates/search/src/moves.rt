@@ -1,7 +1,7 @@
 // The next move of the search: tests of the context, in the order of the tries.
 use formula::Sort;
 ghost use mathlib.Core.Path.{_≡_};
-ghost use mathlib.Core.List.{[], _∷_};
+ghost use mathlib.Core.List.{_∷_};
 ghost use Prim.Native.Nat.{_≤_, _<_};
 ghost use Rattle.formula.specs.declared.Sort.the-variants.{Faces};
 ghost use Rattle.formula.specs.Bytes.{dimBytes};
@@ -12,7 +12,7 @@ ghost use Rattle.search.specs.Contexts.{contextOf, Context};
 ghost use Rattle.search.specs.Turns.{clashBy, FirstCompound};
 
 // A clash of two literals at a dimension, or none.
-pub enum Clash {
+pub(crate) enum Clash {
     Of(usize),
     Free,
 }
@@ -29,7 +29,7 @@ pub(crate) fn literal(b: u8, k: usize) -> [u8; 2]
 }
 
 // Whether f is in the context.
-pub fn has(f: &[u8], n: usize, g: &[u8]) -> bool
+pub(crate) fn has(f: &[u8], n: usize, g: &[u8]) -> bool
     requires { ⌜ Known Faces (now f) × Context n (now g) ⌝ }
     ensures { λ r. ⌜ r ≡ has (treeOf Faces (now (f .entry))) (contextOf n (now (g .entry))) ⌝ }
 {
@@ -78,7 +78,7 @@ fn clash_in(n: usize, g: &[u8], m: usize, h: &[u8]) -> Clash
 }
 
 // The first clash in the context.
-pub fn first_clash(n: usize, g: &[u8]) -> Clash
+pub(crate) fn first_clash(n: usize, g: &[u8]) -> Clash
     requires { ⌜ Context n (now g) ⌝ }
     ensures { λ r. ⌜ clashBy r ≡ tryClash (contextOf n (now (g .entry))) (contextOf n (now (g .entry))) ⌝ }
 {
@@ -86,7 +86,7 @@ pub fn first_clash(n: usize, g: &[u8]) -> Clash
 }
 
 // The number of the first compound face; n where there is none.
-pub fn first_compound(n: usize, g: &[u8]) -> usize
+pub(crate) fn first_compound(n: usize, g: &[u8]) -> usize
     requires { ⌜ Context n (now g) ⌝ }
     ensures { λ r. ⌜ (r ≤ n) × FirstCompound (contextOf n (now (g .entry))) r ⌝ }
 {

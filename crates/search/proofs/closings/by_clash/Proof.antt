@@ -1,16 +1,15 @@
 use borrow.Author.Needs.{needs}
 use Rattle.search.proofs.closings.by_clash.Statement.{statement}
 use Rattle.search.proofs.closings.by_clash.Tie as tie
-use native.Mathlib.Omega.{arith}
-use mathlib.Core.Path.{refl, sym, ap, _∙_}
+use mathlib.Core.Path.{sym, _∙_}
 use borrow.Author.Tests.{not-true, not-false}
+use Rattle.formula.specs.declared.Sort.the-variants.{Faces}
 use Rattle.formula.specs.Formula.{lo, hi}
+use Rattle.steps.specs.Trees.{treeOf}
 use Rattle.steps.proofs.RunLaws.{runs-led}
 use Rattle.steps.proofs.TreeLaws.{known}
-use Rattle.search.proofs.ClosingLaws.{cover-short, literal-is, clash-stop, clash-stop-2, clash-up}
-use Rattle.formula.specs.declared.Sort.the-variants.{Faces}
-use Rattle.steps.specs.Trees.{treeOf}
 use Rattle.search.specs.Contexts.{contextOf}
+use Rattle.search.proofs.ClosingLaws.{literal-is, clash-stop, clash-stop-2, clash-up}
 
 literal-requires : tie.Need-literal-requires
 literal-requires c κs = search needs
@@ -54,20 +53,14 @@ step-of-requires c κs = search needs
 step-of-requires-2 : tie.Need-step-of-requires-2
 step-of-requires-2 c κs = search needs
 
-count-requires : tie.Need-count-requires
-count-requires c κs = search needs
-
-slice-aggregate-emit3 : tie.Need-slice-aggregate-emit3
-slice-aggregate-emit3 c = search needs
-
-emit3-requires : tie.Need-emit3-requires
-emit3-requires c κs = (runs-led (c .before .before .before .before .before .before .before .before .before .member2 .ensures), cover-short (c .before .before .before .before .before .before .before .before .before .before .before .before .before .before .before .before .before .before .before .before .before .before .before .before .pre .2) (c .before .before .before .before .before .before .before .before .before .before .before .before .before .before .before .before .before .before .before .before .before .before .before .before .pre .3) (c .before .count .ensures))
+cover-step-requires : tie.Need-cover-step-requires
+cover-step-requires c κs = (runs-led (c .before .before .before .before .before .before .before .member2 .ensures), c .before .before .before .before .before .before .before .before .before .before .before .before .before .before .before .before .before .before .before .before .before .before .pre .2, c .before .before .before .before .before .before .before .before .before .before .before .before .before .before .before .before .before .before .before .before .before .before .pre .3)
 
 same-length-3 : tie.Need-same-length-3
 same-length-3 c = search needs
 
 returns-3 : tie.Need-returns-3
-returns-3 c = let a = c .before .before .before .before .before .before .before .before .before .before .before .before .before .before .before .before .before .before .before .before .before .before .before .before .before .before .before .args in clash-up (a .k) (contextOf (a .n) (a .g .now)) (treeOf Faces (a .goal .now)) (c .before .before .before .before .before .before .before .before .before .before .before .before .before .before .before .before .before .before .before .before .before .before .before .before .before .before .before .pre .1) (c .before .before .before .before .before .before .before .before .before .before .before .before .before .before .before .before .before .before .before .before .before .before .literal .ensures) (c .before .before .before .before .before .before .before .before .before .before .before .before .before .before .before .before .before .before .before .before .member .ensures) (sym (c .before .before .before .before .before .before .before .before .before .before .before .before .before .before .before .before .before .is-done .ensures) ∙ not-false _ (c .before .before .before .before .before .before .before .before .before .before .before .before .before .before .before .before .if1 .left)) (c .before .before .before .before .before .before .before .before .before .before .before .before .before .before .literal2 .ensures) (c .before .before .before .before .before .before .before .before .before .before .before .before .member2 .ensures) (c .before .before .before .before .before .before .before .before .before .before .before .before .before .before .before .before .before .before .before .before .before .before .before .before .before .before .before .pre .2) (c .before .before .before .before .before .before .before .before .before .before .before .before .before .before .before .before .before .before .before .before .before .before .before .before .before .before .before .pre .3) (sym (c .before .before .before .before .before .before .before .before .before .is-done2 .ensures) ∙ not-false _ (c .before .before .before .before .before .before .before .before .if2 .left)) (c .before .before .before .before .before .before .step-of .ensures) (c .before .before .before .before .before .step-of2 .ensures) (c .before .before .before .before .count .ensures) (c .before .before .emit3 .ensures)
+returns-3 c = let a = c .before .before .before .before .before .before .before .before .before .before .before .before .before .before .before .before .before .before .before .before .before .before .before .before .before .args in clash-up (a .k) (contextOf (a .n) (a .g .now)) (treeOf Faces (a .goal .now)) (c .before .before .before .before .before .before .before .before .before .before .before .before .before .before .before .before .before .before .before .before .before .before .before .before .before .pre .1) (c .before .before .before .before .before .before .before .before .before .before .before .before .before .before .before .before .before .before .before .before .literal .ensures) (c .before .before .before .before .before .before .before .before .before .before .before .before .before .before .before .before .before .before .member .ensures) (sym (c .before .before .before .before .before .before .before .before .before .before .before .before .before .before .before .is-done .ensures) ∙ not-false _ (c .before .before .before .before .before .before .before .before .before .before .before .before .before .before .if1 .left)) (c .before .before .before .before .before .before .before .before .before .before .before .before .literal2 .ensures) (c .before .before .before .before .before .before .before .before .before .before .member2 .ensures) (c .before .before .before .before .before .before .before .before .before .before .before .before .before .before .before .before .before .before .before .before .before .before .before .before .before .pre .2) (c .before .before .before .before .before .before .before .before .before .before .before .before .before .before .before .before .before .before .before .before .before .before .before .before .before .pre .3) (sym (c .before .before .before .before .before .before .before .is-done2 .ensures) ∙ not-false _ (c .before .before .before .before .before .before .if2 .left)) (c .before .before .before .before .step-of .ensures) (c .before .before .before .step-of2 .ensures) (c .before .before .cover-step .ensures)
 
 pub by-clash-spec : {M : Type 1} → statement M
 by-clash-spec =
@@ -87,8 +80,6 @@ by-clash-spec =
     returns-2
     step-of-requires
     step-of-requires-2
-    count-requires
-    slice-aggregate-emit3
-    emit3-requires
+    cover-step-requires
     same-length-3
     returns-3)

@@ -1,11 +1,10 @@
 use borrow.Author.Needs.{needs}
 use Rattle.search.proofs.closings.by_member.Statement.{statement}
 use Rattle.search.proofs.closings.by_member.Tie as tie
-use native.Mathlib.Omega.{arith}
-use mathlib.Core.Path.{refl, sym, ap, _∙_}
+use mathlib.Core.Path.{sym, _∙_}
 use borrow.Author.Tests.{not-true, not-false}
 use Rattle.steps.proofs.RunLaws.{runs-led}
-use Rattle.search.proofs.ClosingLaws.{cover-short, by-member-stop, by-member-up}
+use Rattle.search.proofs.ClosingLaws.{by-member-stop, by-member-up}
 
 member-requires : tie.Need-member-requires
 member-requires c κs = search needs
@@ -22,20 +21,14 @@ returns c = by-member-stop _ _ _ _ (c .before .before .before .before .member .e
 step-of-requires : tie.Need-step-of-requires
 step-of-requires c κs = search needs
 
-count-requires : tie.Need-count-requires
-count-requires c κs = search needs
-
-slice-aggregate-emit3 : tie.Need-slice-aggregate-emit3
-slice-aggregate-emit3 c = search needs
-
-emit3-requires : tie.Need-emit3-requires
-emit3-requires c κs = (runs-led (c .before .before .before .before .before .before .before .before .member .ensures), cover-short (c .before .before .before .before .before .before .before .before .before .before .before .before .before .before .pre .2) (c .before .before .before .before .before .before .before .before .before .before .before .before .before .before .pre .3) (c .before .count .ensures))
+cover-step-requires : tie.Need-cover-step-requires
+cover-step-requires c κs = (runs-led (c .before .before .before .before .before .before .member .ensures), c .before .before .before .before .before .before .before .before .before .before .before .before .pre .2, c .before .before .before .before .before .before .before .before .before .before .before .before .pre .3)
 
 same-length-2 : tie.Need-same-length-2
 same-length-2 c = search needs
 
 returns-2 : tie.Need-returns-2
-returns-2 c = by-member-up _ _ _ _ (c .before .before .before .before .before .before .before .before .before .before .before .before .before .before .before .before .before .pre .2) (c .before .before .before .before .before .before .before .before .before .before .before .before .before .before .before .before .before .pre .3) (c .before .before .before .before .before .before .before .before .before .before .before .before .before .before .before .before .before .pre .4) (c .before .before .before .before .before .before .before .before .before .before .before .member .ensures) (sym (c .before .before .before .before .before .before .before .before .is-done .ensures) ∙ not-false _ (c .before .before .before .before .before .before .before .if1 .left)) (c .before .before .before .before .before .step-of .ensures) (c .before .before .before .before .count .ensures) (c .before .before .emit3 .ensures)
+returns-2 c = by-member-up _ _ _ _ (c .before .before .before .before .before .before .before .before .before .before .before .before .before .before .before .pre .2) (c .before .before .before .before .before .before .before .before .before .before .before .before .before .before .before .pre .3) (c .before .before .before .before .before .before .before .before .before .before .before .before .before .before .before .pre .4) (c .before .before .before .before .before .before .before .before .before .member .ensures) (sym (c .before .before .before .before .before .before .is-done .ensures) ∙ not-false _ (c .before .before .before .before .before .if1 .left)) (c .before .before .before .step-of .ensures) (c .before .before .cover-step .ensures)
 
 pub by-member-spec : {M : Type 1} → statement M
 by-member-spec =
@@ -46,8 +39,6 @@ by-member-spec =
     same-length
     returns
     step-of-requires
-    count-requires
-    slice-aggregate-emit3
-    emit3-requires
+    cover-step-requires
     same-length-2
     returns-2)
