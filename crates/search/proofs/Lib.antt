@@ -9,3 +9,4 @@ pub mod CoverLaws
 pub mod TurnLaws
 pub mod SplitLaws
 pub mod SearchLaws
+pub mod ImplicationLaws

@@ -2,6 +2,7 @@
 mod closings;
 mod contexts;
 mod covers;
+mod implications;
 mod lefts;
 mod members;
 mod moves;
@@ -9,5 +10,7 @@ mod takes;
 mod turns;
 
 pub use covers::cover;
+pub use implications::endpoint;
+pub use implications::entails;
 pub use members::member;
 pub use takes::take;
