@@ -1,0 +1,8 @@
+pub mod GateLaws
+pub mod ReplyLaws
+pub mod ResultLaws
+pub mod BoundLaws
+pub mod IndexLaws
+pub mod SideLaws
+pub mod ImplicationLaws
+pub mod Demand

@@ -1,0 +1,4 @@
+pub mod Replying
+pub mod Asking
+pub mod Ending
+pub mod Exported

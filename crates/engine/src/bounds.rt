@@ -1,0 +1,46 @@
+// face and interval, once over the sort.
+use crate::Answer;
+use crate::door;
+use crate::door::Gate;
+use crate::ending;
+use formula::Sort;
+ghost use mathlib.Core.Path.{_≡_};
+ghost use mathlib.Core.List.{[]};
+ghost use Prim.Native.Nat.{_≤_};
+ghost use Rattle.calculus.specs.Door.{face as faceCall, interval as intervalCall};
+ghost use Rattle.ledger.specs.Ledger.{Led};
+ghost use Rattle.steps.specs.Trees.{Known};
+ghost use Rattle.engine.specs.Replying.{said, Replies, boundedCall};
+
+// The call once questions 1 to 4 are answered.
+fn run(l: &mut [u8], sort: Sort, d: usize, f: &[u8]) -> Answer
+    requires { ⌜ Led (now l) × Known sort (now f) × (d ≤ 255) ⌝ }
+    ensures { λ r. ⌜ Replies (boundedCall sort d (now (f .entry))) (now (l .entry)) (said r) (now (l .exit)) [] ⌝ }
+{
+    let end = ledger::used(l);
+    let r = steps::bounded(l, sort, d, f);
+    ending::ending(l, end, r)
+}
+
+fn bounded(l: &mut [u8], sort: Sort, d: usize, f: &[u8]) -> Answer
+    ensures { λ r. ⌜ Replies (boundedCall sort d (now (f .entry))) (now (l .entry)) (said r) (now (l .exit)) [] ⌝ }
+{
+    match door::one(l, sort, f, d <= 255) {
+        Gate::Open => run(l, sort, d, f),
+        Gate::Shut(e) => Answer::Refused(e),
+    }
+}
+
+// The step that all dimensions of the face f are below d.
+pub fn face(l: &mut [u8], d: usize, f: &[u8]) -> Answer
+    ensures { λ r. ⌜ Replies (faceCall d (now (f .entry))) (now (l .entry)) (said r) (now (l .exit)) [] ⌝ }
+{
+    bounded(l, Sort::Faces, d, f)
+}
+
+// The step that all dimensions of the interval r are below d.
+pub fn interval(l: &mut [u8], d: usize, r: &[u8]) -> Answer
+    ensures { λ a. ⌜ Replies (intervalCall d (now (r .entry))) (now (l .entry)) (said a) (now (l .exit)) [] ⌝ }
+{
+    bounded(l, Sort::Intervals, d, r)
+}
