@@ -26,8 +26,8 @@ use Rattle.calculus.specs.Door.{Call, Item, item, Task, transformTask, taskOf, 
 use Rattle.calculus.proofs.Doors.{ItemsKeep}
 use Rattle.ledger.specs.Ledger.{Led}
 use Rattle.steps.specs.Trees.{treeOf, Known}
-use Rattle.steps.specs.Programs.{opOf, KnownOp}
-use Rattle.steps.proofs.ImageLaws.{operand-known}
+use Rattle.transforms.specs.Transforms.{opOf, KnownOp}
+use Rattle.transforms.proofs.ImageLaws.{operand-known}
 use Rattle.engine.specs.declared.Refusal.{Refusal}
 use Rattle.engine.specs.declared.Made.the-variants.{Refused}
 use Rattle.engine.specs.declared.door.Gate.the-variants.{Shut}

@@ -6,3 +6,4 @@ pub mod IndexLaws
 pub mod SideLaws
 pub mod ImplicationLaws
 pub mod Demand
+pub mod Saying

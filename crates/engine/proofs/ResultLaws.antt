@@ -25,7 +25,7 @@ use Rattle.steps.specs.declared.Ran.{Ran}
 use Rattle.steps.specs.Running.{Runs}
 use Rattle.steps.specs.Trees.{Is}
 use Rattle.steps.proofs.TreeLaws.{is-short}
-use Rattle.steps.proofs.ImageLaws.{limited-is, outcome-kept, in-front}
+use Rattle.transforms.proofs.ImageLaws.{limited-is, outcome-kept, in-front}
 use Rattle.engine.specs.declared.Refusal.the-variants.{LargeResult, ShortOutput}
 use Rattle.engine.specs.declared.Answer.{Answer}
 use Rattle.engine.specs.declared.Answer.the-variants.{Step, Refused}

@@ -30,7 +30,7 @@ use Rattle.steps.specs.Running.{Runs}
 use Rattle.steps.specs.Trees.{treeOf, Known}
 use Rattle.steps.specs.Programs.{Sides}
 use Rattle.steps.proofs.BoundaryLaws.{side-is}
-use Rattle.steps.proofs.ImageLaws.{zero-front, one-front}
+use Rattle.transforms.proofs.ImageLaws.{zero-front, one-front}
 use Rattle.engine.specs.declared.Refusal.{Refusal}
 use Rattle.engine.specs.declared.Refusal.the-variants.{ShortOutput}
 use Rattle.engine.specs.declared.Answer.{Answer}

@@ -3,13 +3,15 @@ use Prim.Native.Nat.{ℕ, zero, suc, _+_, _-_, _*_, _≤_, _<_}
 use native.Mathlib.Omega.{arith}
 use mathlib.Core.Path.{_≡_, refl, sym, ap, ap₂, _∙_}
 use native.Mathlib.Decide.{decLt}
-use mathlib.Core.Bool.{Bool, true, false, _&&_}
+use mathlib.Core.Bool.{Bool, true, false, _&&_, and-false}
 use mathlib.Core.Option.{Option, none, some, Option·map}
 use mathlib.Core.List.{List, [], _∷_}
-use lib.ListN.{length, getD, take, drop}
+use lib.ListN.{length, getD, take, drop, length-drop}
+use lib.Dec.{eqb}
 use borrow.Author.Tests.{eq-eqb, ne-eqb}
 use Rattle.formula.specs.Answers.{sameBytes}
-use lib.Seq.{drop-cons, drop-length}
+use lib.Seq.{drop-cons, drop-length, length-take-le}
+use Rattle.formula.proofs.ByteLaws.{same-refl, same-true, same-lengths}
 use Rattle.calculus.specs.Judgement.{Step}
 use Rattle.calculus.specs.Table.{predicate, entryOf}
 use Rattle.calculus.specs.Rules.{stepAt, judgementAt}
@@ -93,6 +95,41 @@ module _ (q : ℕ) (x : List ℕ) (s : Step) where
 
   pub same-predicate : numberOf (predicate (s .judgement)) ≡ q → sameStep q x s ≡ sameBytes (operandBytes (s .judgement)) x
   same-predicate h = ap (λ (t : Bool). t && sameBytes (operandBytes (s .judgement)) x) (eq-eqb _ _ h)
+
+-- A step whose record does not end with the bytes has other operands.
+module _ {l : List ℕ} {step at : ℕ} (p : Points l step at) {end : ℕ} (e : end ≡ placeOf (stepsOf l) (suc step)) (x : List ℕ) where
+  other-operands : sameBytes (operandBytes (judgementAt (stepsOf l) step)) x ≡ false → (q : ℕ) → sameStep q x (stepAt (stepsOf l) step) ≡ false
+  other-operands h q = ap (λ (b : Bool). eqb (numberOf (predicate (judgementAt (stepsOf l) step))) q && b) h ∙ and-false (eqb (numberOf (predicate (judgementAt (stepsOf l) step))) q)
+
+  -- Where the operands begin.
+  start : ℕ
+  start = at + 6 + 4 * length ((stepAt (stepsOf l) step) .references)
+
+  operands-are : take (end - start) (drop start l) ≡ operandBytes (judgementAt (stepsOf l) step)
+  unfolding start
+  operands-are = points-operands p start end refl e
+
+  operands-long : start + length (operandBytes (judgementAt (stepsOf l) step)) ≡ end
+  unfolding start
+  operands-long =
+      let i = inside p in
+      let n : length (take (end - start) (drop start l)) ≡ end - start = length-take-le (end - start) (drop start l) (omega (arith, length-drop start l, i .operands, i .whole, e)) in
+      omega (arith, ap length operands-are, n, i .operands, e)
+
+  pub ends-early : end - at < length x → (q : ℕ) → sameStep q x (stepAt (stepsOf l) step) ≡ false
+  unfolding start
+  ends-early h = other-operands (same-lengths (operandBytes (judgementAt (stepsOf l) step)) x (λ i. omega (arith, operands-long, i, h)))
+
+  pub ends-unlike : (m : ℕ) → m ≡ length x → sameBytes (take (end - (end - m)) (drop (end - m) l)) x ≡ false → (q : ℕ) → sameStep q x (stepAt (stepsOf l) step) ≡ false
+  ends-unlike m n h = other-operands (go (sameBytes (operandBytes (judgementAt (stepsOf l) step)) x) refl)
+    where
+      go : (b : Bool) → sameBytes (operandBytes (judgementAt (stepsOf l) step)) x ≡ b → b ≡ false
+      go false i = refl
+      go true i =
+          let y : operandBytes (judgementAt (stepsOf l) step) ≡ x = same-true (operandBytes (judgementAt (stepsOf l) step)) x i in
+          let k : end - m ≡ start = omega (arith, operands-long, n, ap length y) in
+          let z : take (end - (end - m)) (drop (end - m) l) ≡ x = ap (λ (a : ℕ). take (end - a) (drop a l)) k ∙ operands-are ∙ y in
+          sym (same-refl x) ∙ ap (λ (w : List ℕ). sameBytes w x) (sym z) ∙ h
 
 -- The lowest of the steps from number i on, and how many there are.
 abbrev pub foundFrom : ℕ → Option ℕ → ℕ → Found

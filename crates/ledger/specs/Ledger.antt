@@ -9,6 +9,7 @@ use lib.ListN.{length, take}
 use Rattle.formula.specs.Answers.{sameBytes}
 use Rattle.calculus.specs.Judgement.{Judgement, Step}
 use Rattle.calculus.specs.Table.{predicate}
+use Rattle.calculus.specs.Rules.{stepAt}
 use Rattle.calculus.specs.Record.{littleEndian, operandBytes, referencesBytes, stepsBytes, size, ledgerBytes, FormedStep, Holds}
 use Rattle.calculus.specs.Parse.{readLedger}
 use Rattle.calculus.specs.Emit.{Outcome, done, stopped, full, emit, within, run}
@@ -45,6 +46,10 @@ pub record Points (l : List ℕ) (step at : ℕ) : Type 0 where
 -- Has the step this predicate and these operands?
 abbrev pub sameStep : ℕ → List ℕ → Step → Bool
 sameStep p operands s = eqb (numberOf (predicate (s .judgement))) p && sameBytes (operandBytes (s .judgement)) operands
+
+-- For a private contract: a test that fails only for steps without these operands.
+abbrev pub RulesOut : List ℕ → ℕ → List ℕ → Bool → Type 0
+RulesOut l i operands r = r ≡ false → (p : ℕ) → sameStep p operands (stepAt (stepsOf l) i) ≡ false
 
 -- Number 0 where the first step is the one, else one more than the number among the others.
 abbrev pub first : Bool → Option ℕ → Option ℕ

@@ -20,9 +20,9 @@ use Rattle.calculus.proofs.Ends.{local-at}
 use Rattle.steps.specs.Trees.{Is, treeOf, Known}
 use Rattle.steps.proofs.TreeLaws.{tree-of, is-short}
 use Rattle.steps.proofs.BoundaryLaws.{side-is}
-use Rattle.search.specs.Contexts.{Are, contextOf, Context}
-use Rattle.search.proofs.AfterLaws.{after-three}
-use Rattle.search.proofs.ContextLaws.{context-of, context-as}
+use Rattle.contexts.specs.Contexts.{Are, contextOf, Context}
+use Rattle.contexts.proofs.AfterLaws.{after-three}
+use Rattle.contexts.proofs.ContextLaws.{context-of, context-as}
 
 -- One face alone is a context.
 one-face : {f : Face} {l : List ℕ} → Is Faces f l → Are (f ∷ []) 1 l

@@ -5,13 +5,13 @@ use mathlib.Core.Bool.{true, false, true≢false, false≢true}
 use mathlib.Core.List.{List, [], _∷_, _++_}
 use lib.ListN.{length, getD, take, drop}
 use Rattle.formula.specs.declared.Sort.the-variants.{Faces}
-use Rattle.formula.specs.Formula.{Face, ff, ft, fand, for}
+use Rattle.formula.specs.Formula.{Face, ff, fand, for}
 use Rattle.formula.specs.Answers.{partAt}
-use Rattle.calculus.specs.Judgement.{member, cover}
+use Rattle.calculus.specs.Judgement.{cover}
 use Rattle.calculus.specs.Rules
 use Rattle.calculus.specs.Search.{Move, splitOf, tryRight, move}
 use Rattle.calculus.specs.Record.{operandBytes}
-use Rattle.calculus.specs.Emit.{Program, emit, _>>=_, attempt}
+use Rattle.calculus.specs.Emit.{Program, _>>=_, attempt}
 use Rattle.calculus.specs.Calls.{emitTake, emitMove, emitCover}
 use Rattle.steps.specs.declared.Ran.{Ran}
 use Rattle.steps.specs.declared.Ran.the-variants.{Done, NotBelow, NotImplied, Full}
@@ -19,15 +19,15 @@ use Rattle.steps.specs.Running.{doneBy, stepBy, Runs, Emits}
 use Rattle.steps.specs.Trees.{Is, treeOf}
 use Rattle.steps.proofs.RunLaws.{runs-below, attempt-done, attempt-failed, attempt-full, Failed, emits-by}
 use Rattle.steps.proofs.TreeLaws.{tree-of}
-use Rattle.search.specs.Contexts.{Are, contextOf, leave, cut, At}
+use Rattle.contexts.specs.Contexts.{Are, contextOf, leave, cut, At}
+use Rattle.contexts.specs.Moves.{splitAt}
 use Rattle.search.specs.declared.turns.Turn.{Turn}
-use Rattle.search.specs.Turns.{splitAt, coverBy, fullBy, Parts, Turns}
-use Rattle.search.proofs.AfterLaws.{after, after-stop, after-up, after-two, two-stop, two-stop-2, two-up, after-three, three-stop, three-stop-2, three-stop-3, three-up}
-use Rattle.search.proofs.ContextLaws.{context-of, tail}
-use Rattle.search.proofs.TakeLaws.{leaving}
-use Rattle.search.proofs.ClosingLaws.{cover-limited}
+use Rattle.search.specs.Turns.{fullBy, Parts, Turns}
+use Rattle.contexts.proofs.AfterLaws.{after, after-stop, after-up, after-two, two-stop, two-stop-2, two-up, after-three, three-stop, three-stop-2, three-stop-3, three-up}
+use Rattle.contexts.proofs.ContextLaws.{context-of, tail}
+use Rattle.contexts.proofs.TakeLaws.{leaving}
+use Rattle.contexts.proofs.ClosingLaws.{cover-limited}
 use Rattle.search.proofs.CoverLaws.{cover-moves}
-use Rattle.search.proofs.TurnLaws.{ff-is}
 use Rattle.search.proofs.SplitLaws.{is-fand, is-for, Halves, halves, both-are, first-are, second-are}
 
 -- The search is the program of its move.
@@ -44,17 +44,6 @@ on-context {l} {l′} {r} g e h = subst (λ (K : List Face). Runs l (emitCover K
 
 on-goal : {l l′ : List ℕ} {r : Ran} (G : List Face) {f g : Face} → f ≡ g → Runs l (emitCover G f) r l′ → Runs l (emitCover G g) r l′
 on-goal {l} {l′} {r} G e h = subst (λ (k : Face). Runs l (emitCover G k) r l′) e h
-
--- Top and absurd ----------------------------------------------------------------------------------
-
-pub by-top-up : {l l′ b k : List ℕ} {r : Ran} {G : List Face} {g : Face} {n : ℕ} → Are G n b → Is Faces g k → g ≡ ft → Emits l 21 (0 ∷ 0 ∷ 0 ∷ []) (operandBytes (cover G g)) r l′ → Runs l (emit 21 [] (cover G g)) r l′
-by-top-up {G = G} w a e t = emits-by t (subst (λ (f : Face). Rules.Rule 21 [] (cover G f)) (sym e) Rules.cover-top) [] refl tt (cover-limited w a) refl refl
-
-pub absurd-rule : {z : List ℕ} (G : List Face) (g : Face) → z ≡ 0 ∷ [] → Rules.Rule 23 (member (treeOf Faces z) G ∷ []) (cover G g)
-absurd-rule G g e = subst (λ (f : Face). Rules.Rule 23 (member f G ∷ []) (cover G g)) (sym (tree-of (ff-is e))) Rules.cover-absurd
-
-pub absurd-runs : {l l′ z : List ℕ} {r : Ran} (G : List Face) (g : Face) → z ≡ 0 ∷ [] → Runs l (coverBy 23 (treeOf Faces z) G g) r l′ → Runs l (coverBy 23 ff G g) r l′
-absurd-runs {l} {l′} {r = r} G g e h = subst (λ (f : Face). Runs l (coverBy 23 f G g) r l′) (tree-of (ff-is e)) h
 
 -- Left moves ----------------------------------------------------------------------------------------
 

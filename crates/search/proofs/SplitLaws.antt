@@ -13,12 +13,12 @@ use Rattle.calculus.specs.Search.{nodesContext}
 use Rattle.calculus.specs.Record.{facesBytes, boundContext}
 use Rattle.steps.specs.Trees.{Is}
 use Rattle.steps.proofs.TreeLaws.{part-front}
-use Rattle.search.specs.Contexts.{Are, Context, leave, cut, At}
+use Rattle.contexts.specs.Contexts.{Are, Context, leave, cut, At}
 use Rattle.search.specs.Turns.{Parts, Split}
-use Rattle.search.proofs.ContextLaws.{context-short, tail, tail-append}
-use Rattle.search.proofs.TakeLaws.{less}
-use Rattle.search.proofs.LeftLaws.{at-of, at-cut, at-end, cut-length, tail-length}
-use Rattle.search.proofs.MoveLaws.{face-some}
+use Rattle.contexts.proofs.ContextLaws.{context-short, tail, tail-append}
+use Rattle.contexts.proofs.TakeLaws.{less}
+use Rattle.contexts.proofs.LeftLaws.{at-of, at-cut, at-end, cut-length, tail-length}
+use Rattle.contexts.proofs.MoveLaws.{face-some}
 
 -- A connective and its kind byte.
 pub record Connective (v : Face → Face → Face) : Type 0 where

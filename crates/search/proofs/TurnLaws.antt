@@ -7,21 +7,23 @@ use mathlib.Core.List.{List, [], _∷_, List·Memᴰ, List·Memᴰ·head, List·
 use lib.ListN.{length, getD, take, drop}
 use Rattle.formula.specs.declared.Sort.the-variants.{Faces}
 use Rattle.formula.specs.Formula.{lo, hi, Face, ff, ft, at, fand, for}
-use Rattle.formula.specs.Bytes.{encodeFace, nodesFace, boundFace}
+use Rattle.formula.specs.Bytes.{encodeFace, boundFace}
 use Rattle.formula.specs.Answers.{partAt}
 use Rattle.calculus.specs.Search.{Move, by-top, by-hit, by-absurd, by-clash, stuck, _else_, provided, has, tryTop, tryClash, splitOf, tryLeft, tryRight, move}
 use Rattle.calculus.specs.Record.{facesBytes, boundContext}
 use Rattle.calculus.proofs.Searching.{Moves, is-clash, Refuted, move-view}
 use Rattle.steps.specs.Trees.{Is, treeOf}
 use Rattle.steps.proofs.TreeLaws.{tree-of}
-use Rattle.search.specs.declared.moves.Clash.{Clash}
-use Rattle.search.specs.declared.moves.Clash.the-variants.{Of, Free}
+use Rattle.contexts.specs.declared.moves.Clash.{Clash}
+use Rattle.contexts.specs.declared.moves.Clash.the-variants.{Of, Free}
+use Rattle.contexts.specs.Contexts.{Are}
+use Rattle.contexts.specs.Moves.{clashBy, compound, splitAt, FirstCompound}
 use Rattle.search.specs.declared.turns.Turn.{Turn}
 use Rattle.search.specs.declared.turns.Turn.the-variants.{Top, Hit, Absurd, Opposed, AndLeft, OrLeft, AndRight, OrRight, Stuck}
-use Rattle.search.specs.Contexts.{Are}
-use Rattle.search.specs.Turns.{clashBy, compound, splitAt, FirstCompound, Parts, Split, Turns, tops, hits, absurds, opposes, splits-and, splits-or, asks-both, asks-either, stays}
-use Rattle.search.proofs.LeftLaws.{at-of}
-use Rattle.search.proofs.MoveLaws.{kind, first-byte}
+use Rattle.search.specs.Turns.{Parts, Split, Turns, tops, hits, absurds, opposes, splits-and, splits-or, asks-both, asks-either, stays}
+use Rattle.contexts.proofs.LeftLaws.{at-of}
+use Rattle.contexts.proofs.MoveLaws.{kind, first-byte}
+use Rattle.contexts.proofs.ClosingLaws.{ff-is}
 
 -- A face by its first byte.
 top-kind : (x : Face) → kind x ≡ 1 → x ≡ ft
@@ -138,11 +140,6 @@ clash-low {G} {k = k} q w e = go (subst (Moves (Refuted G q) G q) e (move-view G
   where
     go : Moves (Refuted G q) G q (by-clash k) → k < 255
     go (is-clash m o) = omega (arith, literal-low m, w .low)
-
--- ff as bytes.
-pub ff-is : {z : List ℕ} → z ≡ 0 ∷ [] → Is Faces ff z
-unfolding encodeFace nodesFace boundFace
-ff-is e = record { bytes = e; few = omega arith; low = omega arith }
 
 module _ {G : List Face} {n : ℕ} {g : List ℕ} {q : Face} {y : List ℕ} (w : Are G n g) (a : Is Faces q y) where
   pub top-turn : getD y 0 0 ≡ 1 → Turns G q (move G q) Top

@@ -1,6 +1,4 @@
 // The search: the next turn, and the search for what it leaves to show.
-use crate::closings;
-use crate::lefts;
 use crate::turns;
 use crate::turns::Turn;
 use formula::Sort;
@@ -16,8 +14,9 @@ ghost use Rattle.calculus.specs.Calls.{emitMove, emitCover};
 ghost use Rattle.ledger.specs.Ledger.{Led};
 ghost use Rattle.steps.specs.Running.{Runs};
 ghost use Rattle.steps.specs.Trees.{treeOf, Known};
-ghost use Rattle.search.specs.Contexts.{contextOf, Context, cut};
-ghost use Rattle.search.specs.Turns.{splitAt, Parts, Split, fullBy};
+ghost use Rattle.contexts.specs.Contexts.{contextOf, Context, cut};
+ghost use Rattle.contexts.specs.Moves.{splitAt};
+ghost use Rattle.search.specs.Turns.{Parts, Split, fullBy};
 
 // Whether a run was out of room.
 fn is_full(r: Ran) -> bool
@@ -37,10 +36,10 @@ pub fn cover(l: &mut [u8], n: usize, g: &[u8], goal: &[u8]) -> Ran
     ensures { λ r. ⌜ Runs (now (l .entry)) (emitCover (contextOf n (now (g .entry))) (treeOf Faces (now (goal .entry)))) r (now (l .exit)) ⌝ }
 {
     match turns::next_turn(n, g, goal) {
-        Turn::Top => closings::by_top(l, n, g, goal),
-        Turn::Hit => closings::by_member(l, 22, goal, n, g, goal),
-        Turn::Absurd => closings::by_absurd(l, n, g, goal),
-        Turn::Opposed(k) => closings::by_clash(l, k, n, g, goal),
+        Turn::Top => contexts::by_top(l, n, g, goal),
+        Turn::Hit => contexts::by_member(l, 22, goal, n, g, goal),
+        Turn::Absurd => contexts::by_absurd(l, n, g, goal),
+        Turn::Opposed(k) => contexts::by_clash(l, k, n, g, goal),
         Turn::AndLeft(i, at) => and_left(l, i, at, n, g, goal),
         Turn::OrLeft(i, at) => or_left(l, i, at, n, g, goal),
         Turn::AndRight => and_right(l, n, g, goal),
@@ -55,7 +54,7 @@ fn branch(l: &mut [u8], front: &[u8], m: usize, g: &[u8], at: usize, end: usize,
     ensures { λ r. ⌜ Runs (now (l .entry)) (emitCover (contextOf m (now (front .entry) ++ cut at end (now (g .entry)))) (treeOf Faces (now (goal .entry)))) r (now (l .exit)) ⌝ }
 {
     let mut made = [0u8; 1024];
-    let k = lefts::leave(front, g, at, end, &mut made);
+    let k = contexts::leave(front, g, at, end, &mut made);
     cover(l, m, &made[..k], goal)
 }
 
@@ -65,7 +64,7 @@ fn and_left(l: &mut [u8], i: usize, at: usize, n: usize, g: &[u8], goal: &[u8]) 
     ensures { λ r. ⌜ Runs (now (l .entry)) (emitMove emitCover (contextOf n (now (g .entry))) (treeOf Faces (now (goal .entry))) (splitAt [] (contextOf n (now (g .entry))) i)) r (now (l .exit)) ⌝ }
 {
     let x = formula::formula_at(Sort::Faces, g, at);
-    let t = lefts::left_out(l, i, x, at, n, g);
+    let t = contexts::left_out(l, i, x, at, n, g);
     if !steps::is_done(t) {
         return t;
     }
@@ -74,7 +73,7 @@ fn and_left(l: &mut [u8], i: usize, at: usize, n: usize, g: &[u8], goal: &[u8]) 
     if !steps::is_done(r) {
         return r;
     }
-    closings::cover_step(l, 25, steps::step_of(t), steps::step_of(r), 0, n, g, goal)
+    contexts::cover_step(l, 25, steps::step_of(t), steps::step_of(r), 0, n, g, goal)
 }
 
 // It is a for: one part in its place, then the other.
@@ -83,7 +82,7 @@ fn or_left(l: &mut [u8], i: usize, at: usize, n: usize, g: &[u8], goal: &[u8]) -
     ensures { λ r. ⌜ Runs (now (l .entry)) (emitMove emitCover (contextOf n (now (g .entry))) (treeOf Faces (now (goal .entry))) (splitAt [] (contextOf n (now (g .entry))) i)) r (now (l .exit)) ⌝ }
 {
     let x = formula::formula_at(Sort::Faces, g, at);
-    let t = lefts::left_out(l, i, x, at, n, g);
+    let t = contexts::left_out(l, i, x, at, n, g);
     if !steps::is_done(t) {
         return t;
     }
@@ -98,7 +97,7 @@ fn or_left(l: &mut [u8], i: usize, at: usize, n: usize, g: &[u8], goal: &[u8]) -
     if !steps::is_done(s) {
         return s;
     }
-    closings::cover_step(
+    contexts::cover_step(
         l,
         26,
         steps::step_of(t),
@@ -125,7 +124,7 @@ fn and_right(l: &mut [u8], n: usize, g: &[u8], goal: &[u8]) -> Ran
     if !steps::is_done(s) {
         return s;
     }
-    closings::cover_step(l, 27, steps::step_of(r), steps::step_of(s), 0, n, g, goal)
+    contexts::cover_step(l, 27, steps::step_of(r), steps::step_of(s), 0, n, g, goal)
 }
 
 // The goal is a for: one part, and where that fails the other; the steps of the failed try stay.
@@ -136,7 +135,7 @@ fn or_right(l: &mut [u8], n: usize, g: &[u8], goal: &[u8]) -> Ran
     let a = formula::formula_at(Sort::Faces, goal, 1);
     let r = cover(l, n, g, a);
     if steps::is_done(r) {
-        return closings::cover_step(l, 28, steps::step_of(r), 0, 0, n, g, goal);
+        return contexts::cover_step(l, 28, steps::step_of(r), 0, 0, n, g, goal);
     }
     if is_full(r) {
         return r;
@@ -146,5 +145,5 @@ fn or_right(l: &mut [u8], n: usize, g: &[u8], goal: &[u8]) -> Ran
     if !steps::is_done(s) {
         return s;
     }
-    closings::cover_step(l, 29, steps::step_of(s), 0, 0, n, g, goal)
+    contexts::cover_step(l, 29, steps::step_of(s), 0, 0, n, g, goal)
 }

@@ -1,13 +1,11 @@
 // The next turn of the search: the first try that is not stuck.
-use crate::lefts;
-use crate::moves;
-use crate::moves::Clash;
+use contexts::Clash;
 use formula::Sort;
 ghost use mathlib.Core.List.{[]};
 ghost use Rattle.formula.specs.declared.Sort.the-variants.{Faces};
 ghost use Rattle.calculus.specs.Search.{_else_, tryLeft, tryRight, move};
 ghost use Rattle.steps.specs.Trees.{treeOf, Known};
-ghost use Rattle.search.specs.Contexts.{contextOf, Context};
+ghost use Rattle.contexts.specs.Contexts.{contextOf, Context};
 ghost use Rattle.search.specs.Turns.{Turns};
 
 // A move: a clash with its dimension, a left move with the number of the compound and where it begins.
@@ -28,9 +26,9 @@ fn split(n: usize, g: &[u8], goal: &[u8]) -> Turn
     requires { ⌜ Context n (now g) × Known Faces (now goal) ⌝ }
     ensures { λ r. ⌜ Turns (contextOf n (now (g .entry))) (treeOf Faces (now (goal .entry))) (tryLeft [] (contextOf n (now (g .entry))) else tryRight (treeOf Faces (now (goal .entry)))) r ⌝ }
 {
-    let i = moves::first_compound(n, g);
+    let i = contexts::first_compound(n, g);
     if i < n {
-        let at = lefts::offset(i, n, g);
+        let at = contexts::offset(i, n, g);
         let x = formula::formula_at(Sort::Faces, g, at);
         if x[0] == 4 {
             return Turn::AndLeft(i, at);
@@ -54,14 +52,14 @@ pub(crate) fn next_turn(n: usize, g: &[u8], goal: &[u8]) -> Turn
     if goal[0] == 1 {
         return Turn::Top;
     }
-    if moves::has(goal, n, g) {
+    if contexts::has(goal, n, g) {
         return Turn::Hit;
     }
     let ff = [0u8; 1];
-    if moves::has(&ff, n, g) {
+    if contexts::has(&ff, n, g) {
         return Turn::Absurd;
     }
-    match moves::first_clash(n, g) {
+    match contexts::first_clash(n, g) {
         Clash::Of(k) => Turn::Opposed(k),
         Clash::Free => split(n, g, goal),
     }

@@ -4,7 +4,6 @@ mod ends;
 mod foralls;
 mod numbers;
 mod parts;
-mod transforms;
 
 pub use below::bounded;
 pub use below::dimension;
@@ -12,10 +11,10 @@ pub use ends::boundary;
 pub use foralls::forall;
 pub use numbers::comparison;
 pub use numbers::number;
+pub use parts::behind;
 pub use parts::emit;
 pub use parts::emit2;
 pub use parts::emit3;
-pub use transforms::transform;
 ghost use mathlib.Core.Path.{_≡_};
 ghost use Rattle.steps.specs.Running.{doneBy, stepBy};
 

@@ -40,19 +40,19 @@ pub fn load(seed: u32, leaves: u32, d: u32) -> Tree {
 }
 
 /// The interval of the same shape.
-fn as_interval(t: &Tree) -> Tree {
+pub fn as_interval(t: &Tree) -> Tree {
     let kind = [I0, I1, DIM, DIM, MEET, JOIN][usize::from(t.kind)];
     Tree { kind, dim: t.dim, parts: t.parts.iter().map(as_interval).collect() }
 }
 
 /// A call that the door lets in, as the Rust takes it.
-fn ready(call: &Call) -> Prepared {
+pub fn ready(call: &Call) -> Prepared {
     let seen = door::admit(call).unwrap_or_else(|q| panic!("refused {q}: {call:?}"));
     prepare(call, &seen.operands)
 }
 
 /// A producer that already holds these steps.
-fn holding(steps: &[Step]) -> FaceProducer {
+pub fn holding(steps: &[Step]) -> FaceProducer {
     let mut producer = FaceProducer::default();
     for (rule, refs, judgement) in steps {
         producer.path.p.emit(rule, refs.clone(), judgement.clone());
@@ -61,13 +61,13 @@ fn holding(steps: &[Step]) -> FaceProducer {
 }
 
 /// One timed run; the producer goes back to the caller to be dropped untimed.
-fn timed(mut producer: FaceProducer, call: &Prepared) -> (Duration, Said, FaceProducer) {
+pub fn timed(mut producer: FaceProducer, call: &Prepared) -> (Duration, Said, FaceProducer) {
     let start = Instant::now();
     let said = drive(&mut producer, call);
     (start.elapsed(), said, producer)
 }
 
-fn median(mut times: Vec<Duration>) -> Duration {
+pub fn median(mut times: Vec<Duration>) -> Duration {
     times.sort_unstable();
     times[times.len() / 2]
 }
@@ -103,7 +103,7 @@ fn again(call: &Call, before: Before) -> Row {
     })
 }
 
-fn micros(time: Duration) -> f64 {
+pub fn micros(time: Duration) -> f64 {
     time.as_nanos() as f64 / 1_000.0
 }
 
@@ -127,11 +127,11 @@ fn heading(title: &str) {
     println!("|---|---|---|---|---|---|---|");
 }
 
-fn on(name: Name, number: usize, f: &Tree) -> Call {
+pub fn on(name: Name, number: usize, f: &Tree) -> Call {
     Call::new(name, number, &[f])
 }
 
-fn small_calls() -> Vec<(&'static str, Call)> {
+pub fn small_calls() -> Vec<(&'static str, Call)> {
     let (a, b) = distribute();
     let entails = |d, a: Tree, b: Tree| Call::new(Name::Entails, d, &[&a, &b]);
     vec![
@@ -154,7 +154,7 @@ fn small_calls() -> Vec<(&'static str, Call)> {
 }
 
 /// A ledger of at least so many steps, grown by forall and shift on loads.
-fn grown(count: usize) -> Vec<Step> {
+pub fn grown(count: usize) -> Vec<Step> {
     let mut producer = FaceProducer::default();
     for seed in 1.. {
         let f = load(seed, 32, 8);
@@ -199,7 +199,7 @@ fn worth_timing(seed: u32, leaves: u32) -> bool {
 }
 
 /// The first seed whose entailment is worth timing.
-fn true_load(leaves: u32) -> (u32, Call) {
+pub fn true_load(leaves: u32) -> (u32, Call) {
     let seed = (1..).find(|seed| worth_timing(*seed, leaves)).unwrap();
     (seed, load_entails(seed, leaves))
 }
@@ -245,7 +245,7 @@ fn conjunction_rows() {
 }
 
 /// Entailments between loads of 8 leaves whose search is short.
-fn growing_calls() -> impl Iterator<Item = Call> {
+pub fn growing_calls() -> impl Iterator<Item = Call> {
     (1..).filter_map(|seed| {
         let (a, b) = (load(seed, 8, 8), load(seed + 1, 8, 8));
         cost::search(&a, &b, 200).0?;

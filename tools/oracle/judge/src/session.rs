@@ -83,11 +83,13 @@ pub struct Session {
     pub producer: FaceProducer,
     /// The records, without the four bytes in front.
     pub records: Vec<u8>,
+    /// How many bytes the last call that was let in wanted the ledger to have.
+    pub wanted: usize,
 }
 
 impl Session {
     pub fn new(length: usize) -> Self {
-        Self { length, producer: FaceProducer::default(), records: vec![] }
+        Self { length, producer: FaceProducer::default(), records: vec![], wanted: 4 }
     }
     pub fn steps(&self) -> &[Step] {
         &self.producer.path.p.steps
@@ -114,7 +116,8 @@ impl Session {
         for step in &producer.path.p.steps[before..] {
             ledger::write_record(step, &mut self.records);
         }
-        if 4 + self.records.len() > self.length {
+        self.wanted = 4 + self.records.len();
+        if self.wanted > self.length {
             self.records.truncate(kept);
             self.undo(before);
             return Answer::Refused(7);

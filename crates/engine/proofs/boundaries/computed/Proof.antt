@@ -3,7 +3,7 @@ use Rattle.engine.proofs.boundaries.computed.Statement.{statement}
 use Rattle.engine.proofs.boundaries.computed.Tie as tie
 use mathlib.Core.Path.{ap, sym}
 use lib.Seq.{length-take-le}
-use Rattle.steps.proofs.ImageLaws.{resulted, room, sides-made, sides-size, zero-front, one-front, sides-front}
+use Rattle.transforms.proofs.ImageLaws.{resulted, room, sides-made, sides-size, zero-front, one-front, sides-front}
 use Rattle.engine.proofs.SideLaws.{short-first, short-second, first-fits, second-fits}
 
 slice-aggregate-boundary : tie.Need-slice-aggregate-boundary

@@ -3,7 +3,7 @@ use Rattle.engine.proofs.foralls.computed.Statement.{statement}
 use Rattle.engine.proofs.foralls.computed.Tie as tie
 use mathlib.Core.Path.{sym}
 use native.Mathlib.Omega.{arith}
-use Rattle.steps.proofs.ImageLaws.{room}
+use Rattle.transforms.proofs.ImageLaws.{room}
 use Rattle.engine.proofs.ResultLaws.{result-done, result-over, result-short, result-ill, one-large, one-short}
 use Rattle.engine.proofs.IndexLaws.{forall-result, forall-computed}
 

@@ -3,7 +3,7 @@ use Rattle.engine.proofs.implications.with_faces.Statement.{statement}
 use Rattle.engine.proofs.implications.with_faces.Tie as tie
 use mathlib.Core.Path.{ap, sym}
 use lib.Seq.{length-take-le}
-use Rattle.steps.proofs.ImageLaws.{resulted, room, sides-made, zero-front, one-front, sides-front}
+use Rattle.transforms.proofs.ImageLaws.{resulted, room, sides-made, zero-front, one-front, sides-front}
 
 slice-aggregate-boundary : tie.Need-slice-aggregate-boundary
 slice-aggregate-boundary c = search needs

@@ -1,8 +1,8 @@
 use Rattle.ledger.proofs.Cursor.kind.Statement.{statement}
 use Rattle.ledger.proofs.Cursor.kind.Tie as tie
 use native.Mathlib.Omega.{arith}
-use mathlib.Core.Path.{_≡_, refl, sym, ap, ap₂, _∙_}
-use Rattle.ledger.proofs.PointLaws.{inside, points-next, points-kind, points-reference, points-entry, points-operands}
+use mathlib.Core.Path.{_∙_}
+use Rattle.ledger.proofs.PointLaws.{inside, points-kind}
 
 add-get2 : tie.Need-add-get2
 add-get2 c = let i = inside (c .before .pre) in omega (arith, i .operands, i .whole, i .small)

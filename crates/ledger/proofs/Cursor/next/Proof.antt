@@ -1,8 +1,8 @@
 use Rattle.ledger.proofs.Cursor.next.Statement.{statement}
 use Rattle.ledger.proofs.Cursor.next.Tie as tie
 use native.Mathlib.Omega.{arith}
-use mathlib.Core.Path.{_≡_, refl, sym, ap, ap₂, _∙_}
-use Rattle.ledger.proofs.PointLaws.{inside, points-next, points-kind, points-reference, points-entry, points-operands}
+use mathlib.Core.Path.{ap, _∙_}
+use Rattle.ledger.proofs.PointLaws.{inside, points-next}
 use Prim.Native.Nat.{ℕ, _+_}
 
 get4-requires : tie.Need-get4-requires

@@ -2,8 +2,7 @@ use borrow.Author.Needs.{needs}
 use Rattle.ledger.proofs.Cursor.operands.Statement.{statement}
 use Rattle.ledger.proofs.Cursor.operands.Tie as tie
 use native.Mathlib.Omega.{arith}
-use mathlib.Core.Path.{_≡_, refl, sym, ap, ap₂, _∙_}
-use Rattle.ledger.proofs.PointLaws.{inside, points-next, points-kind, points-reference, points-entry, points-operands}
+use Rattle.ledger.proofs.PointLaws.{inside, points-operands}
 
 operands-from-requires : tie.Need-operands-from-requires
 operands-from-requires c κs = search needs

@@ -2,8 +2,8 @@ use borrow.Author.Needs.{needs}
 use Rattle.ledger.proofs.Cursor.operands_from.Statement.{statement}
 use Rattle.ledger.proofs.Cursor.operands_from.Tie as tie
 use native.Mathlib.Omega.{arith}
-use mathlib.Core.Path.{_≡_, refl, sym, ap, ap₂, _∙_}
-use Rattle.ledger.proofs.PointLaws.{inside, points-next, points-kind, points-reference, points-entry, points-operands}
+use mathlib.Core.Path.{sym, ap, _∙_}
+use Rattle.ledger.proofs.PointLaws.{inside, points-entry}
 use Prim.Native.Nat.{ℕ, _+_, _*_}
 use Rattle.calculus.specs.Table.{entryOf}
 use Rattle.records.specs.Kinds.{entryAs}

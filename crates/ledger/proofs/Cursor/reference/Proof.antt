@@ -1,8 +1,8 @@
 use Rattle.ledger.proofs.Cursor.reference.Statement.{statement}
 use Rattle.ledger.proofs.Cursor.reference.Tie as tie
 use native.Mathlib.Omega.{arith}
-use mathlib.Core.Path.{_≡_, refl, sym, ap, ap₂, _∙_}
-use Rattle.ledger.proofs.PointLaws.{inside, points-next, points-kind, points-reference, points-entry, points-operands}
+use mathlib.Core.Path.{_∙_}
+use Rattle.ledger.proofs.PointLaws.{inside, points-reference}
 
 add-get4 : tie.Need-add-get4
 add-get4 c = let i = inside (c .before .pre .0) in omega (arith, i .operands, i .whole, i .small)

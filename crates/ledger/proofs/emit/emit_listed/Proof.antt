@@ -3,9 +3,7 @@ use Rattle.ledger.proofs.emit.emit_listed.Statement.{statement}
 use Rattle.ledger.proofs.emit.emit_listed.Tie as tie
 use Rattle.ledger.proofs.EmitLaws.{emit-found, emit-new, emit-full}
 use lib.ListN.{take}
-use mathlib.Core.Path.{_≡_, sym, _∙_, subst}
-use mathlib.Core.Bool.{Bool}
-use Rattle.ledger.specs.Ledger.{Appended}
+use mathlib.Core.Path.{sym, _∙_}
 
 find-requires : tie.Need-find-requires
 find-requires c κs = search needs

@@ -2,12 +2,8 @@ use borrow.Author.Needs.{needs}
 use Rattle.ledger.proofs.grow.put_record.Statement.{statement}
 use Rattle.ledger.proofs.grow.put_record.Tie as tie
 use native.Mathlib.Omega.{arith}
-use mathlib.Core.Path.{_≡_, refl, sym, ap, ap₂, _∙_}
-use Prim.Native.Nat.{ℕ, _+_, _*_}
-use mathlib.Core.List.{List}
-use lib.ListN.{length, take}
-use lib.Seq.{sets, length-take-le}
-use Rattle.calculus.specs.Record.{referencesBytes, littleEndian}
+use lib.ListN.{take}
+use lib.Seq.{length-take-le}
 use borrow.Kind.Array.{eInt, good-length}
 use mir.Syntax.{w64}
 use Rattle.ledger.proofs.GrowLaws.{four-stores}

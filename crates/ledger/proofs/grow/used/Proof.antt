@@ -1,8 +1,7 @@
 use borrow.Author.Needs.{needs}
 use Rattle.ledger.proofs.grow.used.Statement.{statement}
 use Rattle.ledger.proofs.grow.used.Tie as tie
-use native.Mathlib.Omega.{arith}
-use mathlib.Core.Path.{_≡_, refl, sym, ap, ap₂, _∙_}
+use mathlib.Core.Path.{ap, _∙_}
 use Prim.Native.Nat.{ℕ, _+_}
 use Rattle.ledger.proofs.LedgerLaws.{used-law}
 

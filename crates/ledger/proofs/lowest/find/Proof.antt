@@ -1,10 +1,9 @@
 use Rattle.ledger.proofs.lowest.find.Statement.{statement}
 use Rattle.ledger.proofs.lowest.find.Tie as tie
 use native.Mathlib.Omega.{arith}
-use mathlib.Core.Path.{_≡_, refl, sym, ap, ap₂, _∙_}
-use Prim.Native.Nat.{ℕ, _+_, _-_, _≤_}
+use mathlib.Core.Path.{_≡_, sym, ap, _∙_}
+use Prim.Native.Nat.{_-_}
 use lib.ListN.{length, drop}
-use Rattle.calculus.specs.Record.{size}
 use Rattle.ledger.specs.Ledger.{stepsOf, findBytes, foundAs}
 use Rattle.ledger.proofs.PointLaws.{Walks, walks-start, walks-points, walks-next, walks-end, walks-forward, foundFrom, find-next, find-here, find-out, find-start}
 use Rattle.ledger.specs.declared.Found.the-variants.{Absent}

@@ -1,23 +1,26 @@
 use borrow.Author.Needs.{needs}
 use Rattle.ledger.proofs.lowest.is_step.Statement.{statement}
 use Rattle.ledger.proofs.lowest.is_step.Tie as tie
-use native.Mathlib.Omega.{arith}
-use mathlib.Core.Path.{_≡_, refl, sym, ap, ap₂, _∙_}
-use mathlib.Core.Bool.{Bool, _&&_}
+use mathlib.Core.Path.{sym, ap, _∙_}
 use mathlib.Core.List.{List}
 use Prim.Native.Nat.{ℕ}
-use lib.Dec.{eqb}
-use borrow.Author.Tests.{eq-eqb, ne-eqb}
+use borrow.Author.Tests.{not-true}
 use Rattle.formula.specs.Answers.{sameBytes}
 use Rattle.calculus.specs.Rules.{stepAt}
 use Rattle.ledger.specs.Ledger.{stepsOf}
 use Rattle.ledger.proofs.PointLaws.{other-predicate, same-predicate}
 
+ends-with-requires : tie.Need-ends-with-requires
+ends-with-requires c κs = search needs
+
+returns : tie.Need-returns
+returns c = let a = c .before .before .before .before .args in sym (c .before .ends-with .ensures (not-true _ (c .if1 .taken)) (a .predicate))
+
 predicate-requires : tie.Need-predicate-requires
 predicate-requires c κs = search needs
 
-returns : tie.Need-returns
-returns c = let a = c .before .before .before .before .args in sym (other-predicate (a .predicate) (a .operands .now) (stepAt (stepsOf (a .l .now)) (a .c .step)) (λ e. c .if1 .taken (c .before .predicate .ensures ∙ e)))
+returns-2 : tie.Need-returns-2
+returns-2 c = let a = c .before .before .before .before .before .before .args in sym (other-predicate (a .predicate) (a .operands .now) (stepAt (stepsOf (a .l .now)) (a .c .step)) (λ e. c .if2 .taken (c .before .predicate .ensures ∙ e)))
 
 operands-requires : tie.Need-operands-requires
 operands-requires c κs = search needs
@@ -25,9 +28,17 @@ operands-requires c κs = search needs
 same-requires : tie.Need-same-requires
 same-requires c κs = search needs
 
-returns-2 : tie.Need-returns-2
-returns-2 c = let a = c .before .before .before .before .before .before .args in c .same .ensures ∙ ap (λ (x : List ℕ). sameBytes x (a .operands .now)) (c .before .operands .ensures) ∙ sym (same-predicate (a .predicate) (a .operands .now) (stepAt (stepsOf (a .l .now)) (a .c .step)) (sym (c .before .before .before .predicate .ensures) ∙ c .before .before .if1 .left))
+returns-3 : tie.Need-returns-3
+returns-3 c = let a = c .before .before .before .before .before .before .before .before .args in c .same .ensures ∙ ap (λ (x : List ℕ). sameBytes x (a .operands .now)) (c .before .operands .ensures) ∙ sym (same-predicate (a .predicate) (a .operands .now) (stepAt (stepsOf (a .l .now)) (a .c .step)) (sym (c .before .before .before .predicate .ensures) ∙ c .before .before .if2 .left))
 
 pub is-step-spec : {M : Type 1} → statement M
 is-step-spec =
-    tie.close (tie.spec predicate-requires returns operands-requires same-requires returns-2)
+    tie.close
+    (tie.spec
+    ends-with-requires
+    returns
+    predicate-requires
+    returns-2
+    operands-requires
+    same-requires
+    returns-3)

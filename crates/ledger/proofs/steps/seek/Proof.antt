@@ -1,8 +1,8 @@
 use Rattle.ledger.proofs.steps.seek.Statement.{statement}
 use Rattle.ledger.proofs.steps.seek.Tie as tie
 use native.Mathlib.Omega.{arith}
-use mathlib.Core.Path.{_≡_, refl, sym, ap, ap₂, _∙_}
-use Prim.Native.Nat.{ℕ, _+_, _-_, _≤_}
+use mathlib.Core.Path.{_≡_, ap, _∙_}
+use Prim.Native.Nat.{_-_, _≤_}
 use Rattle.ledger.specs.Ledger.{stepsOf, placeOf, Points}
 use Rattle.ledger.proofs.PointLaws.{Walks, walks-start, walks-next}
 

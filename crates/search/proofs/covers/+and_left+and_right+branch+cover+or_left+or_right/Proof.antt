@@ -20,14 +20,14 @@ use Rattle.search.proofs.covers.or_right.Reads as or-right
 use Rattle.search.proofs.covers.or_right.Kinds as or-right-kinds
 use Rattle.search.proofs.covers.+and_left+and_right+branch+cover+or_left+or_right.Lts-or_right as or-right-lts
 use Rattle.formula.proofs.formula_at.Reads as formula-at-reads
-use Rattle.search.proofs.closings.by_absurd.Reads as by-absurd-reads
-use Rattle.search.proofs.closings.by_clash.Reads as by-clash-reads
-use Rattle.search.proofs.closings.by_member.Reads as by-member-reads
-use Rattle.search.proofs.closings.by_top.Reads as by-top-reads
-use Rattle.search.proofs.closings.cover_step.Reads as cover-step-reads
+use Rattle.contexts.proofs.by_absurd.Reads as by-absurd-reads
+use Rattle.contexts.proofs.by_clash.Reads as by-clash-reads
+use Rattle.contexts.proofs.by_member.Reads as by-member-reads
+use Rattle.contexts.proofs.by_top.Reads as by-top-reads
+use Rattle.contexts.proofs.cover_step.Reads as cover-step-reads
 use Rattle.search.proofs.covers.is_full.Reads as is-full-reads
-use Rattle.search.proofs.lefts.leave.Reads as leave-reads
-use Rattle.search.proofs.lefts.left_out.Reads as left-out-reads
+use Rattle.contexts.proofs.leave.Reads as leave-reads
+use Rattle.contexts.proofs.left_out.Reads as left-out-reads
 use Rattle.search.proofs.turns.next_turn.Reads as next-turn-reads
 use Rattle.steps.proofs.is_done.Reads as is-done-reads
 use Rattle.steps.proofs.step_of.Reads as step-of-reads
@@ -45,9 +45,9 @@ use Rattle.calculus.specs.Rules
 use Rattle.calculus.specs.Emit.{not-implied}
 use Rattle.steps.proofs.RunLaws.{runs-led, runs-failure}
 use Rattle.steps.proofs.TreeLaws.{known, is-short}
-use Rattle.search.proofs.ContextLaws.{context-as, context-short, context-count}
-use Rattle.search.proofs.LeftLaws.{at-end}
-use Rattle.search.proofs.MoveLaws.{face-some}
+use Rattle.contexts.proofs.ContextLaws.{context-as, context-short, context-count}
+use Rattle.contexts.proofs.LeftLaws.{at-end}
+use Rattle.contexts.proofs.MoveLaws.{face-some}
 use Rattle.search.proofs.TurnLaws.{told}
 use Rattle.search.proofs.SplitLaws.{is-fand, is-for, halves, second-shorter, both-are, first-are, second-are, both-falls, first-falls, second-falls, split-is, made-fits, made-length, made-context}
 use Rattle.search.proofs.SearchLaws.{by-turn, made-runs, and-left-stop, and-left-stop-2, and-left-up, or-left-stop, or-left-stop-2, or-left-stop-3, or-left-up, and-right-stop, and-right-stop-2, and-right-up, or-right-up, or-right-full, or-right-stop, or-right-up-2}

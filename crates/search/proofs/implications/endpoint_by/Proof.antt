@@ -7,7 +7,7 @@ use Rattle.calculus.specs.Door.{endOf}
 use Rattle.steps.proofs.RunLaws.{runs-led}
 use Rattle.steps.proofs.TreeLaws.{known, is-short}
 use Rattle.steps.proofs.BoundaryLaws.{side-is}
-use Rattle.search.proofs.AfterLaws.{three-stop, three-stop-2, three-stop-3, three-up}
+use Rattle.contexts.proofs.AfterLaws.{three-stop, three-stop-2, three-stop-3, three-up}
 use Rattle.search.proofs.ImplicationLaws.{local-rule, endpoint-program, local-limited, local-bytes}
 
 bounded-requires : tie.Need-bounded-requires

@@ -5,7 +5,7 @@ use mathlib.Core.Path.{sym, _∙_}
 use borrow.Author.Tests.{not-true, not-false}
 use Rattle.calculus.specs.Rules.{entails-checked}
 use Rattle.steps.proofs.RunLaws.{runs-led}
-use Rattle.search.proofs.AfterLaws.{three-stop, three-stop-2, three-stop-3, three-up}
+use Rattle.contexts.proofs.AfterLaws.{three-stop, three-stop-2, three-stop-3, three-up}
 use Rattle.search.proofs.ImplicationLaws.{context-one, entails-program, entails-limited, entails-bytes, entails-short}
 
 bounded-requires : tie.Need-bounded-requires

@@ -3,8 +3,9 @@ use Rattle.search.proofs.turns.next_turn.Statement.{statement}
 use Rattle.search.proofs.turns.next_turn.Tie as tie
 use mathlib.Core.Path.{refl}
 use Rattle.steps.proofs.TreeLaws.{known}
-use Rattle.search.proofs.MoveLaws.{face-some}
-use Rattle.search.proofs.TurnLaws.{ff-is, top-turn, hit-turn, absurd-turn, opposed-turn, split-turn}
+use Rattle.contexts.proofs.MoveLaws.{face-some}
+use Rattle.contexts.proofs.ClosingLaws.{ff-is}
+use Rattle.search.proofs.TurnLaws.{top-turn, hit-turn, absurd-turn, opposed-turn, split-turn}
 
 shared-slice-read-if1 : tie.Need-shared-slice-read-if1
 shared-slice-read-if1 c = face-some (c .before .before .before .pre .1)

@@ -1,8 +1,8 @@
 use borrow.Author.Needs.{needs}
 use Rattle.search.proofs.turns.split.Statement.{statement}
 use Rattle.search.proofs.turns.split.Tie as tie
-use Rattle.search.proofs.LeftLaws.{at-of}
-use Rattle.search.proofs.MoveLaws.{face-some}
+use Rattle.contexts.proofs.LeftLaws.{at-of}
+use Rattle.contexts.proofs.MoveLaws.{face-some}
 use Rattle.search.proofs.TurnLaws.{and-left-turn, or-left-turn, and-right-turn, or-right-turn, stuck-turn}
 
 first-compound-requires : tie.Need-first-compound-requires

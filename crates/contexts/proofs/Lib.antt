@@ -1,0 +1,7 @@
+pub mod AfterLaws
+pub mod ContextLaws
+pub mod MemberLaws
+pub mod TakeLaws
+pub mod MoveLaws
+pub mod LeftLaws
+pub mod ClosingLaws

@@ -1,0 +1,557 @@
+use Prim.Native.Nat.{ℕ, _<_}
+use borrow.Fn.Kinds.{In}
+use borrow.Fn.PlainCycle.{Measures, is, falls, and}
+use Rattle.contexts.proofs.takes.take.Reads as take
+use Rattle.contexts.proofs.takes.take.Kinds as take-kinds
+use Rattle.contexts.proofs.takes.+take.Lts-take as take-lts
+use Rattle.formula.proofs.formula_at.Reads as formula-at-reads
+use Rattle.contexts.proofs.contexts.count.Reads as count-reads
+use Rattle.steps.proofs.is_done.Reads as is-done-reads
+use Rattle.steps.proofs.emit.Reads as emit-reads
+use Rattle.steps.proofs.step_of.Reads as step-of-reads
+use Rattle.contexts.proofs.takes.+take.{statement}
+use Rattle.contexts.proofs.takes.+take.Tie.{close}
+use native.Mathlib.Omega.{arith}
+use borrow.Author.Needs.{needs}
+use mathlib.Core.Path.{refl, sym, ap, _∙_}
+use borrow.Author.Tests.{not-true, not-false}
+use lib.ListN.{length}
+use Rattle.steps.proofs.RunLaws.{runs-led}
+use Rattle.contexts.proofs.TakeLaws.{take-short, take-here, rest-cut, rest-without, take-stop, take-up}
+
+abbrev μ-take : Measures 4 take-kinds.ps ℕ
+μ-take κs a = a .1 .0
+
+abbrev take-at : ℕ → In 4 take-kinds.ps
+take-at t = and 4 take-kinds.ps (is 4 take-kinds.ps μ-take t) take.Pre
+
+abbrev take-below : ℕ → In 4 take-kinds.ps
+take-below t = and 4 take-kinds.ps (falls 4 take-kinds.ps _<_ μ-take t) take.Pre
+
+take-count-requires : (t : ℕ) → take-lts.Need-count-requires (
+  count-reads.Asked,
+  count-reads.Learnt,
+  emit-reads.Asked,
+  emit-reads.Learnt,
+  formula-at-reads.Asked,
+  formula-at-reads.Learnt,
+  take-below t,
+  take.Post,
+  is-done-reads.Asked,
+  is-done-reads.Learnt,
+  step-of-reads.Asked,
+  step-of-reads.Learnt,
+) (take-at t) take.Post
+take-count-requires t c κs = tt
+
+take-slice-aggregate-emit : (t : ℕ) → take-lts.Need-slice-aggregate-emit (
+  count-reads.Asked,
+  count-reads.Learnt,
+  emit-reads.Asked,
+  emit-reads.Learnt,
+  formula-at-reads.Asked,
+  formula-at-reads.Learnt,
+  take-below t,
+  take.Post,
+  is-done-reads.Asked,
+  is-done-reads.Learnt,
+  step-of-reads.Asked,
+  step-of-reads.Learnt,
+) (take-at t) take.Post
+take-slice-aggregate-emit t c = search needs
+
+take-sub-count : (t : ℕ) → take-lts.Need-sub-count (
+  count-reads.Asked,
+  count-reads.Learnt,
+  emit-reads.Asked,
+  emit-reads.Learnt,
+  formula-at-reads.Asked,
+  formula-at-reads.Learnt,
+  take-below t,
+  take.Post,
+  is-done-reads.Asked,
+  is-done-reads.Learnt,
+  step-of-reads.Asked,
+  step-of-reads.Learnt,
+) (take-at t) take.Post
+take-sub-count t c = omega (arith, c .before .before .before .before .before .before .before .before .pre .1 .1 .inside)
+
+take-count-requires-2 : (t : ℕ) → take-lts.Need-count-requires-2 (
+  count-reads.Asked,
+  count-reads.Learnt,
+  emit-reads.Asked,
+  emit-reads.Learnt,
+  formula-at-reads.Asked,
+  formula-at-reads.Learnt,
+  take-below t,
+  take.Post,
+  is-done-reads.Asked,
+  is-done-reads.Learnt,
+  step-of-reads.Asked,
+  step-of-reads.Learnt,
+) (take-at t) take.Post
+take-count-requires-2 t c κs = tt
+
+take-slice-aggregate-emit-2 : (t : ℕ) → take-lts.Need-slice-aggregate-emit-2 (
+  count-reads.Asked,
+  count-reads.Learnt,
+  emit-reads.Asked,
+  emit-reads.Learnt,
+  formula-at-reads.Asked,
+  formula-at-reads.Learnt,
+  take-below t,
+  take.Post,
+  is-done-reads.Asked,
+  is-done-reads.Learnt,
+  step-of-reads.Asked,
+  step-of-reads.Learnt,
+) (take-at t) take.Post
+take-slice-aggregate-emit-2 t c = search needs
+
+take-emit-requires : (t : ℕ) → take-lts.Need-emit-requires (
+  count-reads.Asked,
+  count-reads.Learnt,
+  emit-reads.Asked,
+  emit-reads.Learnt,
+  formula-at-reads.Asked,
+  formula-at-reads.Learnt,
+  take-below t,
+  take.Post,
+  is-done-reads.Asked,
+  is-done-reads.Learnt,
+  step-of-reads.Asked,
+  step-of-reads.Learnt,
+) (take-at t) take.Post
+take-emit-requires t c κs = (c .before .before .before .before .before .before .before .before .before .before .pre .1 .0, take-short (c .before .before .before .before .before .before .before .before .before .before .pre .1 .1) (c .before .before .before .count .ensures) (c .before .count2 .ensures))
+
+take-same-length : (t : ℕ) → take-lts.Need-same-length (
+  count-reads.Asked,
+  count-reads.Learnt,
+  emit-reads.Asked,
+  emit-reads.Learnt,
+  formula-at-reads.Asked,
+  formula-at-reads.Learnt,
+  take-below t,
+  take.Post,
+  is-done-reads.Asked,
+  is-done-reads.Learnt,
+  step-of-reads.Asked,
+  step-of-reads.Learnt,
+) (take-at t) take.Post
+take-same-length t c = search needs
+
+take-returns : (t : ℕ) → take-lts.Need-returns (
+  count-reads.Asked,
+  count-reads.Learnt,
+  emit-reads.Asked,
+  emit-reads.Learnt,
+  formula-at-reads.Asked,
+  formula-at-reads.Learnt,
+  take-below t,
+  take.Post,
+  is-done-reads.Asked,
+  is-done-reads.Learnt,
+  step-of-reads.Asked,
+  step-of-reads.Learnt,
+) (take-at t) take.Post
+take-returns t c = take-here (c .before .before .before .before .before .before .before .before .before .before .before .before .before .pre .1 .1) (c .before .before .before .before .before .before .before .before .if1 .taken) (c .before .before .before .before .before .before .count .ensures) (c .before .before .before .before .count2 .ensures) (c .before .before .emit .ensures)
+
+take-formula-at-requires : (t : ℕ) → take-lts.Need-formula-at-requires (
+  count-reads.Asked,
+  count-reads.Learnt,
+  emit-reads.Asked,
+  emit-reads.Learnt,
+  formula-at-reads.Asked,
+  formula-at-reads.Learnt,
+  take-below t,
+  take.Post,
+  is-done-reads.Asked,
+  is-done-reads.Learnt,
+  step-of-reads.Asked,
+  step-of-reads.Learnt,
+) (take-at t) take.Post
+take-formula-at-requires t c κs = tt
+
+take-sub-take : (t : ℕ) → take-lts.Need-sub-take (
+  count-reads.Asked,
+  count-reads.Learnt,
+  emit-reads.Asked,
+  emit-reads.Learnt,
+  formula-at-reads.Asked,
+  formula-at-reads.Learnt,
+  take-below t,
+  take.Post,
+  is-done-reads.Asked,
+  is-done-reads.Learnt,
+  step-of-reads.Asked,
+  step-of-reads.Learnt,
+) (take-at t) take.Post
+take-sub-take t c = omega (arith, c .before .before .if1 .left)
+
+take-sub-take-2 : (t : ℕ) → take-lts.Need-sub-take-2 (
+  count-reads.Asked,
+  count-reads.Learnt,
+  emit-reads.Asked,
+  emit-reads.Learnt,
+  formula-at-reads.Asked,
+  formula-at-reads.Learnt,
+  take-below t,
+  take.Post,
+  is-done-reads.Asked,
+  is-done-reads.Learnt,
+  step-of-reads.Asked,
+  step-of-reads.Learnt,
+) (take-at t) take.Post
+take-sub-take-2 t c = omega (arith, c .before .before .before .before .before .before .before .pre .1 .1 .inside)
+
+take-sub-take-3 : (t : ℕ) → take-lts.Need-sub-take-3 (
+  count-reads.Asked,
+  count-reads.Learnt,
+  emit-reads.Asked,
+  emit-reads.Learnt,
+  formula-at-reads.Asked,
+  formula-at-reads.Learnt,
+  take-below t,
+  take.Post,
+  is-done-reads.Asked,
+  is-done-reads.Learnt,
+  step-of-reads.Asked,
+  step-of-reads.Learnt,
+) (take-at t) take.Post
+take-sub-take-3 t c = rest-cut (c .before .before .before .before .before .before .before .pre .1 .1) (c .before .before .if1 .left) (c .before .formula-at .ensures) .0
+
+take-part-take-start : (t : ℕ) → take-lts.Need-part-take-start (
+  count-reads.Asked,
+  count-reads.Learnt,
+  emit-reads.Asked,
+  emit-reads.Learnt,
+  formula-at-reads.Asked,
+  formula-at-reads.Learnt,
+  take-below t,
+  take.Post,
+  is-done-reads.Asked,
+  is-done-reads.Learnt,
+  step-of-reads.Asked,
+  step-of-reads.Learnt,
+) (take-at t) take.Post
+take-part-take-start t c = rest-cut (c .before .before .before .before .before .before .before .pre .1 .1) (c .before .before .if1 .left) (c .before .formula-at .ensures) .0
+
+take-part-take-end : (t : ℕ) → take-lts.Need-part-take-end (
+  count-reads.Asked,
+  count-reads.Learnt,
+  emit-reads.Asked,
+  emit-reads.Learnt,
+  formula-at-reads.Asked,
+  formula-at-reads.Learnt,
+  take-below t,
+  take.Post,
+  is-done-reads.Asked,
+  is-done-reads.Learnt,
+  step-of-reads.Asked,
+  step-of-reads.Learnt,
+) (take-at t) take.Post
+take-part-take-end t c = search needs
+
+take-sub-take-4 : (t : ℕ) → take-lts.Need-sub-take-4 (
+  count-reads.Asked,
+  count-reads.Learnt,
+  emit-reads.Asked,
+  emit-reads.Learnt,
+  formula-at-reads.Asked,
+  formula-at-reads.Learnt,
+  take-below t,
+  take.Post,
+  is-done-reads.Asked,
+  is-done-reads.Learnt,
+  step-of-reads.Asked,
+  step-of-reads.Learnt,
+) (take-at t) take.Post
+take-sub-take-4 t c = rest-cut (c .before .before .before .before .before .before .before .before .pre .1 .1) (c .before .before .before .if1 .left) (c .before .before .formula-at .ensures) .1
+
+take-part-take-start-2 : (t : ℕ) → take-lts.Need-part-take-start-2 (
+  count-reads.Asked,
+  count-reads.Learnt,
+  emit-reads.Asked,
+  emit-reads.Learnt,
+  formula-at-reads.Asked,
+  formula-at-reads.Learnt,
+  take-below t,
+  take.Post,
+  is-done-reads.Asked,
+  is-done-reads.Learnt,
+  step-of-reads.Asked,
+  step-of-reads.Learnt,
+) (take-at t) take.Post
+take-part-take-start-2 t c = rest-cut (c .before .before .before .before .before .before .before .before .pre .1 .1) (c .before .before .before .if1 .left) (c .before .before .formula-at .ensures) .1
+
+take-part-take-end-2 : (t : ℕ) → take-lts.Need-part-take-end-2 (
+  count-reads.Asked,
+  count-reads.Learnt,
+  emit-reads.Asked,
+  emit-reads.Learnt,
+  formula-at-reads.Asked,
+  formula-at-reads.Learnt,
+  take-below t,
+  take.Post,
+  is-done-reads.Asked,
+  is-done-reads.Learnt,
+  step-of-reads.Asked,
+  step-of-reads.Learnt,
+) (take-at t) take.Post
+take-part-take-end-2 t c = search needs
+
+take-take-requires : (t : ℕ) → take-lts.Need-take-requires (
+  count-reads.Asked,
+  count-reads.Learnt,
+  emit-reads.Asked,
+  emit-reads.Learnt,
+  formula-at-reads.Asked,
+  formula-at-reads.Learnt,
+  take-below t,
+  take.Post,
+  is-done-reads.Asked,
+  is-done-reads.Learnt,
+  step-of-reads.Asked,
+  step-of-reads.Learnt,
+) (take-at t) take.Post
+take-take-requires t c κs = (omega (arith, c .before .before .before .before .before .before .before .before .before .pre .0, c .before .before .before .before .if1 .left), (c .before .before .before .before .before .before .before .before .before .pre .1 .0, rest-without (c .before .before .before .before .before .before .before .before .before .pre .1 .1) (c .before .before .before .before .if1 .left) (c .before .before .before .formula-at .ensures)))
+
+take-is-done-requires : (t : ℕ) → take-lts.Need-is-done-requires (
+  count-reads.Asked,
+  count-reads.Learnt,
+  emit-reads.Asked,
+  emit-reads.Learnt,
+  formula-at-reads.Asked,
+  formula-at-reads.Learnt,
+  take-below t,
+  take.Post,
+  is-done-reads.Asked,
+  is-done-reads.Learnt,
+  step-of-reads.Asked,
+  step-of-reads.Learnt,
+) (take-at t) take.Post
+take-is-done-requires t c κs = tt
+
+take-same-length-2 : (t : ℕ) → take-lts.Need-same-length-2 (
+  count-reads.Asked,
+  count-reads.Learnt,
+  emit-reads.Asked,
+  emit-reads.Learnt,
+  formula-at-reads.Asked,
+  formula-at-reads.Learnt,
+  take-below t,
+  take.Post,
+  is-done-reads.Asked,
+  is-done-reads.Learnt,
+  step-of-reads.Asked,
+  step-of-reads.Learnt,
+) (take-at t) take.Post
+take-same-length-2 t c = search needs
+
+take-returns-2 : (t : ℕ) → take-lts.Need-returns-2 (
+  count-reads.Asked,
+  count-reads.Learnt,
+  emit-reads.Asked,
+  emit-reads.Learnt,
+  formula-at-reads.Asked,
+  formula-at-reads.Learnt,
+  take-below t,
+  take.Post,
+  is-done-reads.Asked,
+  is-done-reads.Learnt,
+  step-of-reads.Asked,
+  step-of-reads.Learnt,
+) (take-at t) take.Post
+take-returns-2 t c = take-stop (c .before .before .before .before .before .before .before .before .before .before .before .before .before .before .pre .1 .1) (c .before .before .before .before .before .before .before .before .before .if1 .left) (c .before .before .before .before .before .before .before .before .formula-at .ensures) (c .before .before .before .before .take .ensures) (sym (c .before .is-done .ensures) ∙ not-true _ (c .if2 .taken))
+
+take-step-of-requires : (t : ℕ) → take-lts.Need-step-of-requires (
+  count-reads.Asked,
+  count-reads.Learnt,
+  emit-reads.Asked,
+  emit-reads.Learnt,
+  formula-at-reads.Asked,
+  formula-at-reads.Learnt,
+  take-below t,
+  take.Post,
+  is-done-reads.Asked,
+  is-done-reads.Learnt,
+  step-of-reads.Asked,
+  step-of-reads.Learnt,
+) (take-at t) take.Post
+take-step-of-requires t c κs = tt
+
+take-count-requires-3 : (t : ℕ) → take-lts.Need-count-requires-3 (
+  count-reads.Asked,
+  count-reads.Learnt,
+  emit-reads.Asked,
+  emit-reads.Learnt,
+  formula-at-reads.Asked,
+  formula-at-reads.Learnt,
+  take-below t,
+  take.Post,
+  is-done-reads.Asked,
+  is-done-reads.Learnt,
+  step-of-reads.Asked,
+  step-of-reads.Learnt,
+) (take-at t) take.Post
+take-count-requires-3 t c κs = tt
+
+take-slice-aggregate-emit-3 : (t : ℕ) → take-lts.Need-slice-aggregate-emit-3 (
+  count-reads.Asked,
+  count-reads.Learnt,
+  emit-reads.Asked,
+  emit-reads.Learnt,
+  formula-at-reads.Asked,
+  formula-at-reads.Learnt,
+  take-below t,
+  take.Post,
+  is-done-reads.Asked,
+  is-done-reads.Learnt,
+  step-of-reads.Asked,
+  step-of-reads.Learnt,
+) (take-at t) take.Post
+take-slice-aggregate-emit-3 t c = search needs
+
+take-sub-count-2 : (t : ℕ) → take-lts.Need-sub-count-2 (
+  count-reads.Asked,
+  count-reads.Learnt,
+  emit-reads.Asked,
+  emit-reads.Learnt,
+  formula-at-reads.Asked,
+  formula-at-reads.Learnt,
+  take-below t,
+  take.Post,
+  is-done-reads.Asked,
+  is-done-reads.Learnt,
+  step-of-reads.Asked,
+  step-of-reads.Learnt,
+) (take-at t) take.Post
+take-sub-count-2 t c = omega (arith, c .before .before .before .before .before .before .before .before .before .before .before .before .before .before .before .before .before .before .pre .1 .1 .inside)
+
+take-count-requires-4 : (t : ℕ) → take-lts.Need-count-requires-4 (
+  count-reads.Asked,
+  count-reads.Learnt,
+  emit-reads.Asked,
+  emit-reads.Learnt,
+  formula-at-reads.Asked,
+  formula-at-reads.Learnt,
+  take-below t,
+  take.Post,
+  is-done-reads.Asked,
+  is-done-reads.Learnt,
+  step-of-reads.Asked,
+  step-of-reads.Learnt,
+) (take-at t) take.Post
+take-count-requires-4 t c κs = tt
+
+take-slice-aggregate-emit-4 : (t : ℕ) → take-lts.Need-slice-aggregate-emit-4 (
+  count-reads.Asked,
+  count-reads.Learnt,
+  emit-reads.Asked,
+  emit-reads.Learnt,
+  formula-at-reads.Asked,
+  formula-at-reads.Learnt,
+  take-below t,
+  take.Post,
+  is-done-reads.Asked,
+  is-done-reads.Learnt,
+  step-of-reads.Asked,
+  step-of-reads.Learnt,
+) (take-at t) take.Post
+take-slice-aggregate-emit-4 t c = search needs
+
+take-emit-requires-2 : (t : ℕ) → take-lts.Need-emit-requires-2 (
+  count-reads.Asked,
+  count-reads.Learnt,
+  emit-reads.Asked,
+  emit-reads.Learnt,
+  formula-at-reads.Asked,
+  formula-at-reads.Learnt,
+  take-below t,
+  take.Post,
+  is-done-reads.Asked,
+  is-done-reads.Learnt,
+  step-of-reads.Asked,
+  step-of-reads.Learnt,
+) (take-at t) take.Post
+take-emit-requires-2 t c κs = (runs-led (c .before .before .before .before .before .before .before .before .before .before .take .ensures), take-short (c .before .before .before .before .before .before .before .before .before .before .before .before .before .before .before .before .before .before .before .before .pre .1 .1) (c .before .before .before .count3 .ensures) (c .before .count4 .ensures))
+
+take-same-length-3 : (t : ℕ) → take-lts.Need-same-length-3 (
+  count-reads.Asked,
+  count-reads.Learnt,
+  emit-reads.Asked,
+  emit-reads.Learnt,
+  formula-at-reads.Asked,
+  formula-at-reads.Learnt,
+  take-below t,
+  take.Post,
+  is-done-reads.Asked,
+  is-done-reads.Learnt,
+  step-of-reads.Asked,
+  step-of-reads.Learnt,
+) (take-at t) take.Post
+take-same-length-3 t c = search needs
+
+take-returns-3 : (t : ℕ) → take-lts.Need-returns-3 (
+  count-reads.Asked,
+  count-reads.Learnt,
+  emit-reads.Asked,
+  emit-reads.Learnt,
+  formula-at-reads.Asked,
+  formula-at-reads.Learnt,
+  take-below t,
+  take.Post,
+  is-done-reads.Asked,
+  is-done-reads.Learnt,
+  step-of-reads.Asked,
+  step-of-reads.Learnt,
+) (take-at t) take.Post
+take-returns-3 t c = take-up (c .before .before .before .before .before .before .before .before .before .before .before .before .before .before .before .before .before .before .before .before .before .before .before .pre .1 .1) (c .before .before .before .before .before .before .before .before .before .before .before .before .before .before .before .before .before .before .if1 .left) (c .before .before .before .before .before .before .before .before .before .before .before .before .before .before .before .before .before .formula-at .ensures) (c .before .before .before .before .before .before .before .before .before .before .before .before .before .take .ensures) (sym (c .before .before .before .before .before .before .before .before .before .before .is-done .ensures) ∙ not-false _ (c .before .before .before .before .before .before .before .before .before .if2 .left)) (c .before .before .before .before .before .before .before .step-of .ensures) (c .before .before .before .before .before .before .count3 .ensures) (c .before .before .before .before .count4 .ensures) (c .before .before .emit2 .ensures)
+
+pub +take-spec : {M : Type 1} → statement M
++take-spec = close μ-take λ t. take-lts.spec (
+  count-reads.Asked,
+  count-reads.Learnt,
+  emit-reads.Asked,
+  emit-reads.Learnt,
+  formula-at-reads.Asked,
+  formula-at-reads.Learnt,
+  take-below t,
+  take.Post,
+  is-done-reads.Asked,
+  is-done-reads.Learnt,
+  step-of-reads.Asked,
+  step-of-reads.Learnt,
+)
+    (take-at t)
+    take.Post
+    (take-count-requires t)
+    (take-slice-aggregate-emit t)
+    (take-sub-count t)
+    (take-count-requires-2 t)
+    (take-slice-aggregate-emit-2 t)
+    (take-emit-requires t)
+    (take-same-length t)
+    (take-returns t)
+    (take-formula-at-requires t)
+    (take-sub-take t)
+    (take-sub-take-2 t)
+    (take-sub-take-3 t)
+    (take-part-take-start t)
+    (take-part-take-end t)
+    (take-sub-take-4 t)
+    (take-part-take-start-2 t)
+    (take-part-take-end-2 t)
+    (take-take-requires t)
+    (take-is-done-requires t)
+    (take-same-length-2 t)
+    (take-returns-2 t)
+    (take-step-of-requires t)
+    (take-count-requires-3 t)
+    (take-slice-aggregate-emit-3 t)
+    (take-sub-count-2 t)
+    (take-count-requires-4 t)
+    (take-slice-aggregate-emit-4 t)
+    (take-emit-requires-2 t)
+    (take-same-length-3 t)
+    (take-returns-3 t)

@@ -1,0 +1,81 @@
+// Moves that leave nothing to search: the goal or ff is in the context, or two literals clash.
+use crate::contexts;
+use crate::members;
+use crate::moves;
+use steps::Ran;
+ghost use mathlib.Core.Path.{_≡_};
+ghost use mathlib.Core.List.{[], _∷_};
+ghost use Prim.Native.Nat.{_<_};
+ghost use Rattle.formula.specs.declared.Sort.the-variants.{Faces};
+ghost use Rattle.formula.specs.Formula.{ff, ft};
+ghost use Rattle.calculus.specs.Judgement.{member, cover};
+ghost use Rattle.calculus.specs.Rules.{Rule};
+ghost use Rattle.calculus.specs.Record.{operandBytes};
+ghost use Rattle.calculus.specs.Emit.{emit};
+ghost use Rattle.ledger.specs.Ledger.{Led};
+ghost use Rattle.steps.specs.Running.{Runs, Emits};
+ghost use Rattle.steps.specs.Trees.{treeOf, Known};
+ghost use Rattle.contexts.specs.Contexts.{contextOf, Context};
+ghost use Rattle.contexts.specs.Moves.{coverBy, coverClash};
+
+// Emits a cover step of this kind and these references.
+pub fn cover_step(
+    l: &mut [u8],
+    kind: usize,
+    i: usize,
+    j: usize,
+    k: usize,
+    n: usize,
+    g: &[u8],
+    goal: &[u8],
+) -> Ran
+    requires { ⌜ Led (now l) × Context n (now g) × Known Faces (now goal) ⌝ }
+    ensures { λ r. ⌜ Emits (now (l .entry)) kind (i ∷ j ∷ k ∷ []) (operandBytes (cover (contextOf n (now (g .entry))) (treeOf Faces (now (goal .entry))))) r (now (l .exit)) ⌝ }
+{
+    steps::emit3(l, kind, [i, j, k], &contexts::count(n), g, goal)
+}
+
+// The cover step of the goal ft.
+pub fn by_top(l: &mut [u8], n: usize, g: &[u8], goal: &[u8]) -> Ran
+    requires { ⌜ Led (now l) × Context n (now g) × Known Faces (now goal) × (treeOf Faces (now goal) ≡ ft) ⌝ }
+    ensures { λ r. ⌜ Runs (now (l .entry)) (emit 21 [] (cover (contextOf n (now (g .entry))) (treeOf Faces (now (goal .entry))))) r (now (l .exit)) ⌝ }
+{
+    cover_step(l, 21, 0, 0, 0, n, g, goal)
+}
+
+// The cover step of this kind, from the step that f is in the context.
+pub fn by_member(l: &mut [u8], kind: usize, f: &[u8], n: usize, g: &[u8], goal: &[u8]) -> Ran
+    requires { ⌜ Led (now l) × Known Faces (now f) × Context n (now g) × Known Faces (now goal) × Rule kind (member (treeOf Faces (now f)) (contextOf n (now g)) ∷ []) (cover (contextOf n (now g)) (treeOf Faces (now goal))) ⌝ }
+    ensures { λ r. ⌜ Runs (now (l .entry)) (coverBy kind (treeOf Faces (now (f .entry))) (contextOf n (now (g .entry))) (treeOf Faces (now (goal .entry)))) r (now (l .exit)) ⌝ }
+{
+    let r = members::member(l, f, n, g);
+    if !steps::is_done(r) {
+        return r;
+    }
+    cover_step(l, kind, steps::step_of(r), 0, 0, n, g, goal)
+}
+
+// The cover step from ff in the context.
+pub fn by_absurd(l: &mut [u8], n: usize, g: &[u8], goal: &[u8]) -> Ran
+    requires { ⌜ Led (now l) × Context n (now g) × Known Faces (now goal) ⌝ }
+    ensures { λ r. ⌜ Runs (now (l .entry)) (coverBy 23 ff (contextOf n (now (g .entry))) (treeOf Faces (now (goal .entry)))) r (now (l .exit)) ⌝ }
+{
+    let ff = [0u8; 1];
+    by_member(l, 23, &ff, n, g, goal)
+}
+
+// The cover step from the clash of two literals at dimension k.
+pub fn by_clash(l: &mut [u8], k: usize, n: usize, g: &[u8], goal: &[u8]) -> Ran
+    requires { ⌜ Led (now l) × (k < 255) × Context n (now g) × Known Faces (now goal) ⌝ }
+    ensures { λ r. ⌜ Runs (now (l .entry)) (coverClash k (contextOf n (now (g .entry))) (treeOf Faces (now (goal .entry)))) r (now (l .exit)) ⌝ }
+{
+    let r = members::member(l, &moves::literal(2, k), n, g);
+    if !steps::is_done(r) {
+        return r;
+    }
+    let s = members::member(l, &moves::literal(3, k), n, g);
+    if !steps::is_done(s) {
+        return s;
+    }
+    cover_step(l, 24, steps::step_of(r), steps::step_of(s), 0, n, g, goal)
+}

@@ -1,0 +1,101 @@
+// The next move of the search: tests of the context, in the order of the tries.
+use formula::Sort;
+ghost use mathlib.Core.Path.{_≡_};
+ghost use mathlib.Core.List.{_∷_};
+ghost use Prim.Native.Nat.{_≤_, _<_};
+ghost use Rattle.formula.specs.declared.Sort.the-variants.{Faces};
+ghost use Rattle.formula.specs.Bytes.{dimBytes};
+ghost use Rattle.formula.specs.Answers.{dimSpace};
+ghost use Rattle.calculus.specs.Search.{has, clashOf, tryClash};
+ghost use Rattle.steps.specs.Trees.{treeOf, Known};
+ghost use Rattle.contexts.specs.Contexts.{contextOf, Context};
+ghost use Rattle.contexts.specs.Moves.{clashBy, FirstCompound};
+
+// A clash of two literals at a dimension, or none.
+pub enum Clash {
+    Of(usize),
+    Free,
+}
+
+// The literal of kind byte b at dimension k.
+pub(crate) fn literal(b: u8, k: usize) -> [u8; 2]
+    requires { ⌜ k < dimSpace ⌝ }
+    ensures { λ r. ⌜ r ≡ b ∷ dimBytes k ⌝ }
+{
+    let mut f = [0u8; 2];
+    f[0] = b;
+    formula::put_dim(&mut f, 1, k);
+    f
+}
+
+// Whether f is in the context.
+pub fn has(f: &[u8], n: usize, g: &[u8]) -> bool
+    requires { ⌜ Known Faces (now f) × Context n (now g) ⌝ }
+    ensures { λ r. ⌜ r ≡ has (treeOf Faces (now (f .entry))) (contextOf n (now (g .entry))) ⌝ }
+{
+    if n == 0 {
+        return false;
+    }
+    let h = formula::formula_at(Sort::Faces, g, 0);
+    if formula::same(f, h) {
+        return true;
+    }
+    has(f, n - 1, &g[h.len()..])
+}
+
+// The clash of the face x, where it is a literal whose opposite is in the context.
+fn opposed(x: &[u8], n: usize, g: &[u8]) -> Clash
+    requires { ⌜ Known Faces (now x) × Context n (now g) ⌝ }
+    ensures { λ r. ⌜ clashBy r ≡ clashOf (contextOf n (now (g .entry))) (treeOf Faces (now (x .entry))) ⌝ }
+{
+    let b = x[0];
+    if b < 2 {
+        return Clash::Free;
+    }
+    if 3 < b {
+        return Clash::Free;
+    }
+    let k = formula::dim_at(x, 1);
+    if has(&literal(5 - b, k), n, g) {
+        return Clash::Of(k);
+    }
+    Clash::Free
+}
+
+// The first clash in the context g of a face of h.
+fn clash_in(n: usize, g: &[u8], m: usize, h: &[u8]) -> Clash
+    requires { ⌜ Context n (now g) × Context m (now h) ⌝ }
+    ensures { λ r. ⌜ clashBy r ≡ tryClash (contextOf n (now (g .entry))) (contextOf m (now (h .entry))) ⌝ }
+{
+    if m == 0 {
+        return Clash::Free;
+    }
+    let x = formula::formula_at(Sort::Faces, h, 0);
+    match opposed(x, n, g) {
+        Clash::Of(k) => Clash::Of(k),
+        Clash::Free => clash_in(n, g, m - 1, &h[x.len()..]),
+    }
+}
+
+// The first clash in the context.
+pub fn first_clash(n: usize, g: &[u8]) -> Clash
+    requires { ⌜ Context n (now g) ⌝ }
+    ensures { λ r. ⌜ clashBy r ≡ tryClash (contextOf n (now (g .entry))) (contextOf n (now (g .entry))) ⌝ }
+{
+    clash_in(n, g, n, g)
+}
+
+// The number of the first compound face; n where there is none.
+pub fn first_compound(n: usize, g: &[u8]) -> usize
+    requires { ⌜ Context n (now g) ⌝ }
+    ensures { λ r. ⌜ (r ≤ n) × FirstCompound (contextOf n (now (g .entry))) r ⌝ }
+{
+    if n == 0 {
+        return 0;
+    }
+    let x = formula::formula_at(Sort::Faces, g, 0);
+    if 3 < x[0] {
+        return 0;
+    }
+    1 + first_compound(n - 1, &g[x.len()..])
+}

@@ -1,0 +1,2 @@
+pub mod TransformLaws
+pub mod ImageLaws

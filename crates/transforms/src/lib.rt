@@ -1,0 +1,296 @@
+// The judgements of a transformed formula, beside the bytes of the result.
+use formula::Op;
+use formula::Outcome;
+use formula::Place;
+use formula::Sort;
+use formula::Step;
+use steps::Ran;
+ghost use mathlib.Core.Path.{_≡_};
+ghost use mathlib.Core.List.{[], _∷_};
+ghost use Prim.Native.Nat.{_+_, _≤_, _<_};
+ghost use lib.ListN.{length, getD, take};
+ghost use Rattle.formula.specs.Operations.{shift, subst};
+ghost use Rattle.formula.specs.Bytes.{dimBytes, encode};
+ghost use Rattle.formula.specs.Answers.{dimSpace};
+ghost use Rattle.calculus.specs.Calls.{transform as transformOf, emitBoundary, emitIntervals, emitFaces, emitTransform};
+ghost use Rattle.ledger.specs.Ledger.{Led};
+ghost use Rattle.steps.specs.Running.{Runs, Emits};
+ghost use Rattle.steps.specs.Trees.{Is, treeOf, Known, Literal};
+ghost use Rattle.transforms.specs.Transforms.{opOf, KnownOp, transformBytes, firstKind, kindGap, transformKind};
+
+// Where the kinds of the rules begin.
+fn first_kind(sort: Sort, op: Op) -> usize
+    ensures { λ r. ⌜ (r ≡ firstKind sort op) × (r ≤ 70) ⌝ }
+{
+    match sort {
+        Sort::Faces => match op {
+            Op::DShift(_) => 64,
+            Op::DSubst(_) => 70,
+        },
+        Sort::Intervals => match op {
+            Op::DShift(_) => 33,
+            Op::DSubst(_) => 40,
+        },
+    }
+}
+
+// How many more rules a dimension has than one.
+fn kind_gap(op: Op) -> usize
+    ensures { λ r. ⌜ (r ≡ kindGap op) × (r ≤ 2) ⌝ }
+{
+    match op {
+        Op::DShift(_) => 1,
+        Op::DSubst(_) => 2,
+    }
+}
+
+// The kind of the rule `more` after the first for a formula that begins with this byte.
+fn transform_kind(sort: Sort, op: Op, b: u8, more: usize) -> usize
+    requires { ⌜ more ≤ 2 ⌝ }
+    ensures { λ r. ⌜ r ≡ transformKind sort op b + more ⌝ }
+{
+    let n = b as usize;
+    let first = first_kind(sort, op);
+    if n < 19 {
+        return n + first + more;
+    }
+    n + first + kind_gap(op) + more
+}
+
+// The step of the whole formula by the rule `more` after the first, from those of its parts.
+fn transform_whole(
+    l: &mut [u8],
+    sort: Sort,
+    op: Op,
+    f: &[u8],
+    t: &[u8],
+    out: &[u8],
+    more: usize,
+    i: usize,
+    j: usize,
+) -> Ran
+    requires { ⌜ Led (now l) × (0 < length (now f)) × (length (now f) ≤ 1022) × (length (now out) ≤ 1022) × KnownOp op (now t) × (more ≤ 2) ⌝ }
+    ensures { λ r. ⌜ Emits (now (l .entry)) (transformKind sort op (getD (now (f .entry)) 0 0) + more) (i ∷ j ∷ 0 ∷ []) (transformBytes op (now (f .entry)) (now (t .entry)) (now (out .entry))) r (now (l .exit)) ⌝ }
+{
+    let kind = transform_kind(sort, op, f[0], more);
+    match op {
+        Op::DShift(k) => steps::emit3(l, kind, [i, j, 0], f, &steps::number(k), out),
+        Op::DSubst(k) => steps::emit(l, kind, [i, j, 0], f, &steps::number(k), t, out, &out[..0]),
+    }
+}
+
+// The steps of a shifted dimension n: its comparison with k, and its own.
+fn shift_dimension(l: &mut [u8], k: usize, n: usize, f: &[u8], out: &[u8]) -> Ran
+    requires { ⌜ Led (now l) × Known Sort.Intervals (now f) × (k < 255) × Literal Sort.Intervals n (now f) × Is Sort.Intervals (transformOf Sort.Intervals (shift k) (treeOf Sort.Intervals (now f))) (now out) ⌝ }
+    ensures { λ r. ⌜ Runs (now (l .entry)) (emitIntervals (shift k) (treeOf Sort.Intervals (now (f .entry)))) r (now (l .exit)) ⌝ }
+{
+    if n < k {
+        let r = steps::comparison(l, true, n, k);
+        if !steps::is_done(r) {
+            return r;
+        }
+        return transform_whole(
+            l,
+            Sort::Intervals,
+            Op::DShift(k),
+            f,
+            f,
+            out,
+            0,
+            steps::step_of(r),
+            0,
+        );
+    }
+    let r = steps::comparison(l, false, k, n);
+    if !steps::is_done(r) {
+        return r;
+    }
+    transform_whole(
+        l,
+        Sort::Intervals,
+        Op::DShift(k),
+        f,
+        f,
+        out,
+        1,
+        steps::step_of(r),
+        0,
+    )
+}
+
+// The steps of a dimension n where t is substituted at k: a comparison where they differ, and its own.
+fn subst_dimension(l: &mut [u8], k: usize, n: usize, f: &[u8], t: &[u8], out: &[u8]) -> Ran
+    requires { ⌜ Led (now l) × Known Sort.Intervals (now f) × ((k < 255) × Known Sort.Intervals (now t)) × Literal Sort.Intervals n (now f) × Is Sort.Intervals (transformOf Sort.Intervals (subst k (treeOf Sort.Intervals (now t))) (treeOf Sort.Intervals (now f))) (now out) ⌝ }
+    ensures { λ r. ⌜ Runs (now (l .entry)) (emitIntervals (subst k (treeOf Sort.Intervals (now (t .entry)))) (treeOf Sort.Intervals (now (f .entry)))) r (now (l .exit)) ⌝ }
+{
+    if n == k {
+        return transform_whole(l, Sort::Intervals, Op::DSubst(k), f, t, out, 1, 0, 0);
+    }
+    if n < k {
+        let r = steps::comparison(l, true, n, k);
+        if !steps::is_done(r) {
+            return r;
+        }
+        return transform_whole(
+            l,
+            Sort::Intervals,
+            Op::DSubst(k),
+            f,
+            t,
+            out,
+            0,
+            steps::step_of(r),
+            0,
+        );
+    }
+    let r = steps::comparison(l, true, k, n);
+    if !steps::is_done(r) {
+        return r;
+    }
+    transform_whole(
+        l,
+        Sort::Intervals,
+        Op::DSubst(k),
+        f,
+        t,
+        out,
+        2,
+        steps::step_of(r),
+        0,
+    )
+}
+
+// The steps of a dimension n, by the operation.
+fn transform_dimension(l: &mut [u8], op: Op, n: usize, f: &[u8], t: &[u8], out: &[u8]) -> Ran
+    requires { ⌜ Led (now l) × Known Sort.Intervals (now f) × KnownOp op (now t) × Literal Sort.Intervals n (now f) × Is Sort.Intervals (transformOf Sort.Intervals (opOf op (now t)) (treeOf Sort.Intervals (now f))) (now out) ⌝ }
+    ensures { λ r. ⌜ Runs (now (l .entry)) (emitIntervals (opOf op (now (t .entry))) (treeOf Sort.Intervals (now (f .entry)))) r (now (l .exit)) ⌝ }
+{
+    match op {
+        Op::DShift(k) => shift_dimension(l, k, n, f, out),
+        Op::DSubst(k) => subst_dimension(l, k, n, f, t, out),
+    }
+}
+
+// The bytes of dimension n as an interval.
+fn dim_node(n: usize) -> [u8; 2]
+    requires { ⌜ n < dimSpace ⌝ }
+    ensures { λ r. ⌜ r ≡ 18 ∷ dimBytes n ⌝ }
+{
+    let mut node = [18u8; 2];
+    formula::put_dim(&mut node, 1, n);
+    node
+}
+
+// What an interval becomes, into the front of out; answers its length. It keeps the limits, so there is always a result.
+fn image(op: Op, r: &[u8], t: &[u8], out: &mut [u8]) -> usize
+    requires { ⌜ Known Sort.Intervals (now r) × KnownOp op (now t) × Is Sort.Intervals (transformOf Sort.Intervals (opOf op (now t)) (treeOf Sort.Intervals (now r))) (encode Sort.Intervals (transformOf Sort.Intervals (opOf op (now t)) (treeOf Sort.Intervals (now r)))) × (1022 ≤ length (now out)) ⌝ }
+    ensures { λ m. ⌜ (m ≤ length (now (out .exit))) × Is Sort.Intervals (transformOf Sort.Intervals (opOf op (now (t .entry))) (treeOf Sort.Intervals (now (r .entry)))) (take m (now (out .exit))) ⌝ }
+{
+    match formula::transform(Sort::Intervals, op, r, t, out) {
+        Outcome::Done(z) => z.len,
+        Outcome::Short(_) => 0,
+        Outcome::Over => 0,
+        Outcome::Ill => 0,
+    }
+}
+
+// The steps of an interval's boundary, whose two faces are made here. They keep the limits, so there is always a result.
+fn boundary_steps(l: &mut [u8], r: &[u8]) -> Ran
+    requires { ⌜ Led (now l) × Known Sort.Intervals (now r) ⌝ }
+    ensures { λ x. ⌜ Runs (now (l .entry)) (emitBoundary (treeOf Sort.Intervals (now (r .entry)))) x (now (l .exit)) ⌝ }
+{
+    let mut zero = [0u8; 1024];
+    let mut one = [0u8; 1024];
+    match formula::boundary(r, &mut zero, &mut one) {
+        Outcome::Done(z) => {
+            let m = z.len;
+            let a = &zero[..m];
+            let b = &one[..m];
+            steps::boundary(l, r, a, b)
+        }
+        Outcome::Short(_) => Ran::Full,
+        Outcome::Over => Ran::Full,
+        Outcome::Ill => Ran::Full,
+    }
+}
+
+// The steps of a face literal on n: of its dimension, in a substitution of the boundary of what that becomes, and its own.
+fn face_literal(l: &mut [u8], op: Op, n: usize, f: &[u8], t: &[u8], out: &[u8]) -> Ran
+    requires { ⌜ Led (now l) × Known Sort.Faces (now f) × KnownOp op (now t) × Literal Sort.Faces n (now f) × Is Sort.Faces (transformOf Sort.Faces (opOf op (now t)) (treeOf Sort.Faces (now f))) (now out) ⌝ }
+    ensures { λ r. ⌜ Runs (now (l .entry)) (emitFaces (opOf op (now (t .entry))) (treeOf Sort.Faces (now (f .entry)))) r (now (l .exit)) ⌝ }
+{
+    let node = dim_node(n);
+    let mut became = [0u8; 1024];
+    let m = image(op, &node, t, &mut became);
+    let a = transform_dimension(l, op, n, &node, t, &became[..m]);
+    if !steps::is_done(a) {
+        return a;
+    }
+    let i = steps::step_of(a);
+    match op {
+        Op::DShift(_) => transform_whole(l, Sort::Faces, op, f, t, out, 0, i, 0),
+        Op::DSubst(_) => {
+            let b = boundary_steps(l, &became[..m]);
+            if !steps::is_done(b) {
+                return b;
+            }
+            let j = steps::step_of(b);
+            transform_whole(l, Sort::Faces, op, f, t, out, 0, i, j)
+        }
+    }
+}
+
+// The steps of a literal on n, by the sort. Apart from the recursion, whose frames then hold no buffers.
+fn transform_literal(
+    l: &mut [u8],
+    sort: Sort,
+    op: Op,
+    n: usize,
+    f: &[u8],
+    t: &[u8],
+    out: &[u8],
+) -> Ran
+    requires { ⌜ Led (now l) × Known sort (now f) × KnownOp op (now t) × Literal sort n (now f) × Is sort (transformOf sort (opOf op (now t)) (treeOf sort (now f))) (now out) ⌝ }
+    ensures { λ r. ⌜ Runs (now (l .entry)) (emitTransform sort (opOf op (now (t .entry))) (treeOf sort (now (f .entry)))) r (now (l .exit)) ⌝ }
+{
+    match sort {
+        Sort::Faces => face_literal(l, op, n, f, t, out),
+        Sort::Intervals => transform_dimension(l, op, n, f, t, out),
+    }
+}
+
+// The steps of a formula and its parts.
+pub fn transform(l: &mut [u8], sort: Sort, op: Op, f: &[u8], t: &[u8], out: &[u8]) -> Ran
+    requires { ⌜ Led (now l) × Known sort (now f) × KnownOp op (now t) × Is sort (transformOf sort (opOf op (now t)) (treeOf sort (now f))) (now out) ⌝ }
+    ensures { λ r. ⌜ Runs (now (l .entry)) (emitTransform sort (opOf op (now (t .entry))) (treeOf sort (now (f .entry)))) r (now (l .exit)) ⌝ }
+{
+    let first = Place { at: 0, pending: 1 };
+    match first.step(sort, f) {
+        Step::Leaf(_) => transform_whole(l, sort, op, f, t, out, 0, 0, 0),
+        Step::Lit(_, n) => transform_literal(l, sort, op, n, f, t, out),
+        Step::One(_) => {
+            let a = transform(l, sort, op, &f[1..], t, &out[1..]);
+            if !steps::is_done(a) {
+                return a;
+            }
+            transform_whole(l, sort, op, f, t, out, 0, steps::step_of(a), 0)
+        }
+        Step::Two(_) => {
+            let x = formula::formula_at(sort, f, 1);
+            let y = formula::formula_at(sort, out, 1);
+            let a = transform(l, sort, op, x, t, y);
+            if !steps::is_done(a) {
+                return a;
+            }
+            let z = steps::behind(f, x.len());
+            let w = steps::behind(out, y.len());
+            let b = transform(l, sort, op, z, t, w);
+            if !steps::is_done(b) {
+                return b;
+            }
+            let i = steps::step_of(a);
+            transform_whole(l, sort, op, f, t, out, 0, i, steps::step_of(b))
+        }
+        Step::Stuck => Ran::Full,
+    }
+}

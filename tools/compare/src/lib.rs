@@ -1,0 +1,8 @@
+//! Our library beside the published Rust: see README.md.
+pub mod expected;
+pub mod lent;
+pub mod library;
+pub mod lists;
+pub mod replay;
+pub mod shrink;
+pub mod tally;
