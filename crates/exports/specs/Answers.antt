@@ -1,5 +1,13 @@
 -- Answers as one number: a signed 64-bit number that is negative where the call is refused.
-use Prim.Native.Nat.{ℕ, _-_}
+use mathlib.Core.Path.{_≡_}
+use mathlib.Core.Bool.{Bool, true, false}
+use mathlib.Core.List.{List, [], _∷_}
+use Prim.Native.Nat.{ℕ, zero, suc, _+_, _*_, _-_}
+use Rattle.calculus.specs.Rules.{pass, fail}
+use Rattle.calculus.specs.Refusal.{number, ill-formed-ledger, does-not-follow}
+use Rattle.calculus.specs.Door
+use Rattle.calculus.specs.Door.{answered, Reply}
+use Rattle.calculus.specs.Desk.{DeskAnswer, unreadable, judged}
 use Rattle.ledger.specs.declared.Checked.{Checked}
 use Rattle.ledger.specs.declared.Checked.the-variants.{Steps, Ill}
 
@@ -11,3 +19,26 @@ refused n = 18446744073709551616 - n
 abbrev pub stepsNumber : Checked → ℕ
 stepsNumber (Steps n) = n
 stepsNumber Ill = refused 1
+
+-- The number of steps that passed, refusal 1, or refusal 10 and sixteen times the lowest step that does not follow.
+abbrev pub deskNumber : DeskAnswer → ℕ
+deskNumber unreadable = refused (number ill-formed-ledger)
+deskNumber (judged (pass n)) = n
+deskNumber (judged (fail n)) = refused (number does-not-follow + 16 * n)
+
+-- The step, and 2^32 times the bytes of the (first) result, or the refusal.
+abbrev pub replyNumber : Door.Answer → ℕ
+replyNumber (answered n []) = n
+replyNumber (answered n (m ∷ ms)) = n + 4294967296 * m .bytes
+replyNumber (Door.refused e) = refused (number e)
+
+-- The number of a call, and every lent byte after it, are those of the calculus' reply.
+pub record Numbers (x : Reply) (r : ℕ) (l′ : List ℕ) (outs : List (List ℕ)) : Type 0 where
+  pub numbered : r ≡ replyNumber (x .answer)
+  pub ledger : l′ ≡ x .ledger
+  pub outputs : outs ≡ x .outputs
+
+-- Whether a number names the end i1: any but 0.
+abbrev pub isOne : ℕ → Bool
+isOne zero = false
+isOne (suc n) = true

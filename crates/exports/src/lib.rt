@@ -1,9 +1,16 @@
-// What C and Rust programs call.
+// What C and Rust programs call. Every answer is one number (specs/Answers): a refusal is negative.
+mod numbers;
+
+use formula::Sort;
 use ledger::Checked;
 ghost use mathlib.Core.Path.{_≡_};
+ghost use mathlib.Core.List.{[], _∷_};
 ghost use Rattle.calculus.specs.Parse.{readLedger};
+ghost use Rattle.calculus.specs.Door.{reply, face as faceCall, interval as intervalCall, boundary as boundaryCall, endpoint as endpointCall, forall as forallCall, shift as shiftCall, substitute as substituteCall, entails as entailsCall};
+ghost use Rattle.calculus.specs.Desk.{deskAnswer};
+ghost use Rattle.calculus.proofs.Desk.{judge};
 ghost use Rattle.ledger.specs.Checks.{counted};
-ghost use Rattle.exports.specs.Answers.{stepsNumber};
+ghost use Rattle.exports.specs.Answers.{stepsNumber, deskNumber, Numbers, isOne};
 
 // How many steps the ledger has, or refusal 1.
 #[no_mangle]
@@ -14,4 +21,105 @@ pub extern "C" fn lf_well_formed(ledger: &[u8]) -> u64
         Checked::Steps(n) => n as u64,
         Checked::Ill => 18446744073709551615,
     }
+}
+
+// How many steps the desk passed, refusal 1, or -(10 + 16 * n) where step n is the lowest that does not follow.
+#[no_mangle]
+pub extern "C" fn lf_step_desk(ledger: &[u8]) -> u64
+    ensures { λ r. ⌜ r ≡ deskNumber (deskAnswer judge (now (ledger .entry))) ⌝ }
+{
+    numbers::verdict(desk::step_desk(ledger))
+}
+
+// The step that all dimensions of the face f are below d.
+#[no_mangle]
+pub extern "C" fn lf_face(ledger: &mut [u8], d: u64, f: &[u8]) -> u64
+    ensures { λ r. ⌜ Numbers (reply (faceCall d (now (f .entry))) (now (ledger .entry))) r (now (ledger .exit)) [] ⌝ }
+{
+    numbers::answer(engine::face(ledger, d as usize, f))
+}
+
+// The step that all dimensions of the interval r are below d.
+#[no_mangle]
+pub extern "C" fn lf_interval(ledger: &mut [u8], d: u64, r: &[u8]) -> u64
+    ensures { λ x. ⌜ Numbers (reply (intervalCall d (now (r .entry))) (now (ledger .entry))) x (now (ledger .exit)) [] ⌝ }
+{
+    numbers::answer(engine::interval(ledger, d as usize, r))
+}
+
+// The step of the boundary of the interval r, and its two faces in front of out0 and out1.
+#[no_mangle]
+pub extern "C" fn lf_boundary(ledger: &mut [u8], r: &[u8], out0: &mut [u8], out1: &mut [u8]) -> u64
+    ensures { λ x. ⌜ Numbers (reply (boundaryCall (now (r .entry)) (now (out0 .entry)) (now (out1 .entry))) (now (ledger .entry))) x (now (ledger .exit)) (now (out0 .exit) ∷ now (out1 .exit) ∷ []) ⌝ }
+{
+    numbers::made(engine::boundary(ledger, r, out0, out1))
+}
+
+// The step that the interval r is i0 (one is 0) or i1 wherever the face phi holds.
+#[no_mangle]
+pub extern "C" fn lf_endpoint(ledger: &mut [u8], d: u64, phi: &[u8], r: &[u8], one: u64) -> u64
+    ensures { λ x. ⌜ Numbers (reply (endpointCall d (now (phi .entry)) (now (r .entry)) (isOne one)) (now (ledger .entry))) x (now (ledger .exit)) [] ⌝ }
+{
+    let end = numbers::is_one(one);
+    numbers::answer(engine::endpoint(ledger, d as usize, phi, r, end))
+}
+
+// The step of ∀k of the face f, and the result in front of out.
+#[no_mangle]
+pub extern "C" fn lf_forall(ledger: &mut [u8], f: &[u8], k: u64, out: &mut [u8]) -> u64
+    ensures { λ x. ⌜ Numbers (reply (forallCall (now (f .entry)) k (now (out .entry))) (now (ledger .entry))) x (now (ledger .exit)) (now (out .exit) ∷ []) ⌝ }
+{
+    numbers::made(engine::forall(ledger, f, k as usize, out))
+}
+
+// The step of the face t shifted at k, and the result in front of out.
+#[no_mangle]
+pub extern "C" fn lf_shift_face(ledger: &mut [u8], t: &[u8], k: u64, out: &mut [u8]) -> u64
+    ensures { λ x. ⌜ Numbers (reply (shiftCall Sort.Faces (now (t .entry)) k (now (out .entry))) (now (ledger .entry))) x (now (ledger .exit)) (now (out .exit) ∷ []) ⌝ }
+{
+    numbers::made(engine::shift(ledger, Sort::Faces, t, k as usize, out))
+}
+
+// The same of an interval.
+#[no_mangle]
+pub extern "C" fn lf_shift_interval(ledger: &mut [u8], t: &[u8], k: u64, out: &mut [u8]) -> u64
+    ensures { λ x. ⌜ Numbers (reply (shiftCall Sort.Intervals (now (t .entry)) k (now (out .entry))) (now (ledger .entry))) x (now (ledger .exit)) (now (out .exit) ∷ []) ⌝ }
+{
+    numbers::made(engine::shift(ledger, Sort::Intervals, t, k as usize, out))
+}
+
+// The step of the face t with the interval r for dimension k, and the result in front of out.
+#[no_mangle]
+pub extern "C" fn lf_substitute_face(
+    ledger: &mut [u8],
+    t: &[u8],
+    k: u64,
+    r: &[u8],
+    out: &mut [u8],
+) -> u64
+    ensures { λ x. ⌜ Numbers (reply (substituteCall Sort.Faces (now (t .entry)) k (now (r .entry)) (now (out .entry))) (now (ledger .entry))) x (now (ledger .exit)) (now (out .exit) ∷ []) ⌝ }
+{
+    numbers::made(engine::substitute(ledger, Sort::Faces, t, k as usize, r, out))
+}
+
+// The same of an interval.
+#[no_mangle]
+pub extern "C" fn lf_substitute_interval(
+    ledger: &mut [u8],
+    t: &[u8],
+    k: u64,
+    r: &[u8],
+    out: &mut [u8],
+) -> u64
+    ensures { λ x. ⌜ Numbers (reply (substituteCall Sort.Intervals (now (t .entry)) k (now (r .entry)) (now (out .entry))) (now (ledger .entry))) x (now (ledger .exit)) (now (out .exit) ∷ []) ⌝ }
+{
+    numbers::made(engine::substitute(ledger, Sort::Intervals, t, k as usize, r, out))
+}
+
+// The step that the face a implies the face b over d; 8 where a dimension is not below d, 9 where it does not.
+#[no_mangle]
+pub extern "C" fn lf_entails(ledger: &mut [u8], d: u64, a: &[u8], b: &[u8]) -> u64
+    ensures { λ r. ⌜ Numbers (reply (entailsCall d (now (a .entry)) (now (b .entry))) (now (ledger .entry))) r (now (ledger .exit)) [] ⌝ }
+{
+    numbers::answer(engine::entails(ledger, d as usize, a, b))
 }

@@ -1,0 +1,58 @@
+// Answers as one number.
+use desk::Verdict;
+use engine::Answer;
+use engine::Made;
+use engine::Refusal;
+ghost use mathlib.Core.Path.{_≡_};
+ghost use Rattle.calculus.specs.Door.{refused as refusedBy};
+ghost use Rattle.engine.specs.Replying.{refusalOf, said, saidOne, saidBoth};
+ghost use Rattle.exports.specs.Answers.{replyNumber, isOne};
+ghost use Rattle.exports.specs.Packing.{Packs, Low, verdictNumber};
+
+// Refusal q as -q.
+fn refused(e: Refusal) -> u64
+    ensures { λ r. ⌜ r ≡ replyNumber (refusedBy (refusalOf e)) ⌝ }
+{
+    let q = engine::number(e);
+    18446744073709551615 - (q as u64 - 1)
+}
+
+// A call without results.
+pub(crate) fn answer(a: Answer) -> u64
+    ensures { λ r. ⌜ r ≡ replyNumber (said a) ⌝ }
+{
+    match a {
+        Answer::Step(n) => n as u64,
+        Answer::Refused(e) => refused(e),
+    }
+}
+
+// A call with results, all of one length.
+pub(crate) fn made(a: Made) -> u64
+    requires { ⌜ Packs a ⌝ }
+    ensures { λ r. ⌜ (r ≡ replyNumber (saidOne a)) × (r ≡ replyNumber (saidBoth a)) ⌝ }
+{
+    match a {
+        Made::Step(n, z) => n as u64 + 4294967296 * (z.len as u64),
+        Made::Refused(e) => refused(e),
+    }
+}
+
+// The desk's answer.
+pub(crate) fn verdict(v: Verdict) -> u64
+    requires { ⌜ Low v ⌝ }
+    ensures { λ r. ⌜ r ≡ verdictNumber v ⌝ }
+{
+    match v {
+        Verdict::Passes(n) => n as u64,
+        Verdict::Ill => 18446744073709551615,
+        Verdict::Fails(n) => 18446744073709551606 - 16 * (n as u64),
+    }
+}
+
+// The end that a number names: 0 is i0, any other i1.
+pub(crate) fn is_one(one: u64) -> bool
+    ensures { λ r. ⌜ r ≡ isOne one ⌝ }
+{
+    one != 0
+}
