@@ -3,7 +3,7 @@ use mathlib.Core.Path.{_≡_, refl, sym, ap, _∙_, subst}
 use mathlib.Core.Option.{some}
 use mathlib.Core.List.{List, [], _∷_, _++_}
 use Prim.Native.Nat.{ℕ, _≤_}
-use lib.ListN.{length}
+use native.Mathlib.Omega.{arith}
 use Rattle.calculus.specs.Judgement.{Step}
 use Rattle.calculus.specs.Record.{maxLedger}
 use Rattle.calculus.specs.Parse.{readLedger}
@@ -15,7 +15,8 @@ use Rattle.calculus.proofs.Desk.{judge, any-judge, judges-valid}
 use Rattle.calculus.proofs.Demands.{demand-3}
 use Rattle.desk.specs.Verdicts.{answerAs, Answers}
 use Rattle.desk.specs.declared.Verdict.{Verdict}
-use Rattle.desk.proofs.Verdicts.{valid-passes}
+use Rattle.desk.specs.declared.Verdict.the-variants.{Passes}
+use Rattle.desk.proofs.Verdicts.{passes-true, valid-passes}
 use Rattle.engine.specs.declared.Answer.{Answer}
 use Rattle.engine.specs.Replying.{said, Replies}
 use Rattle.engine.specs.Exported
@@ -40,6 +41,12 @@ unfolding after
 calls-after Exported.none = refl
 calls-after (Exported.then {cs} e h) = calls-after h ∙ ap (λ (m : List ℕ). after m cs) (exported-ledger e)
 
+passed-true : (l : List ℕ) (judging : (L : List Step) → Judged L) (v : Verdict) (n : ℕ) → Answers (deskAnswer judging l) v → v ≡ Passes n → Passed l v
+passed-true l judging v n a e =
+    let w : v ≡ answerAs (deskAnswer judge l) = a .gives ∙ ap answerAs (any-judge judging judge l) in
+    let t = passes-true l w e in
+    record { steps = t .steps; reads = t .reads; passes = e ∙ ap Passes (sym (t .count)); truth = λ i b. t .truth i (omega (arith, b, t .count)) }
+
 desk : (n : ℕ) → 4 ≤ n → n ≤ maxLedger → (cs : List Call) (l : List ℕ) → Calls (empty n) cs l → (judging : (L : List Step) → Judged L) (v : Verdict) → Answers (deskAnswer judging l) v → Passed l v
 desk n p q cs l h judging v a =
     let k = demand-3 .of-calls n p q cs .desk in
@@ -56,4 +63,4 @@ entailment n p q cs l h d a b x l′ k u =
     subst (RightReply d a b) e (demand-3 .of-calls n p q (cs ++ Door.entails d a b ∷ []) .entailments cs [] d a b refl (subst (λ (r : Reply). NotRefusedTo7 (r .answer)) (sym e) u))
 
 pub demand-3-exported : Demand3
-demand-3-exported = record { desk = desk; entailment = entailment }
+demand-3-exported = record { passed-true = passed-true; desk = desk; entailment = entailment }

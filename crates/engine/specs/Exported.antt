@@ -46,8 +46,9 @@ pub record Passed (l : List ℕ) (v : Verdict) : Type 0 where
   pub passes : v ≡ Passes (length steps)
   pub truth : (i : ℕ) → i < length steps → True (judgementAt steps i)
 
--- Demand 3: after every list of calls from an empty ledger of any allowed length, every verdict that the contract of `step_desk` allows is a pass, and an entails that follows the list, not refused by 1 to 7, answers right: yes with the lowest number of such a step exactly when its meaning holds, 8 exactly when a dimension is not below d, and else 9.
+-- Demand 3, of answers that the contracts allow: where `step_desk` passes any bytes each judgement is true; after every list of calls from an empty ledger of any allowed length it passes; and an entails that follows the list, not refused by 1 to 7, answers right: yes with the lowest number of such a step exactly when its meaning holds, 8 exactly when a dimension is not below d, and else 9.
 pub record Demand3 : Type 0 where
+  pub passed-true : (l : List ℕ) (judge : (L : List Step) → Judged L) (v : Verdict) (n : ℕ) → Answers (deskAnswer judge l) v → v ≡ Passes n → Passed l v
   pub desk : (n : ℕ) → 4 ≤ n → n ≤ maxLedger → (cs : List Call) (l : List ℕ) → Calls (empty n) cs l → (judge : (L : List Step) → Judged L) (v : Verdict) → Answers (deskAnswer judge l) v → Passed l v
   pub entailment : (n : ℕ) → 4 ≤ n → n ≤ maxLedger → (cs : List Call) (l : List ℕ) → Calls (empty n) cs l
       → (d : ℕ) (a b : List ℕ) (x : Answer) (l′ : List ℕ) → Replies (Door.entails d a b) l (said x) l′ [] → NotRefusedTo7 (said x)
