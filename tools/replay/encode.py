@@ -13,18 +13,20 @@ A list:
     word      how many of the ledger's bytes are summed after the last call: 4 + L, or the length where that is less; the others are zero
     word      the sum of these bytes: A low, B high
     calls
+    word      how many bytes of the ledger after the last call follow: all that are summed where the sample has them, else 0
+    these bytes
 
 A call:
     byte      its kind: 0 face, 1 interval, 2 boundary, 3 endpoint, 4 forall, 5 face-shift, 6 interval-shift, 7 face-substitute,
               8 interval-substitute, 9 entails
     byte      for endpoint 1 where the end is i1, else 0
-    2 bytes   the length of the result; 0 where there is none or the call is refused. Both faces of a boundary have it
+    2 bytes   0
     word      d or k; 0 for boundary
     word      the lengths of the output slices, low and high; 0 for one that the call does not have
     word      the lengths of the operands, low and high; the second is 0 where the call has one
     word      the answer: 1 to 9 for a refusal, 16 + the step's number for a yes
-    word      the sum of the result's bytes, of both results behind each other for boundary: A low, B high; 1 where there is none
-    the first operand's bytes, then the second's
+    word      the lengths of the results, low and high; 0 for one that the call does not have, and where it is refused
+    the first operand's bytes, then the second's, then those of the results
 
 A sum goes over its bytes from A = 1, B = 0: A becomes (A + byte) mod 65521, then B becomes (B + A) mod 65521.
 
@@ -97,20 +99,17 @@ def call(line, answer_line):
     given = [unhex(next(rest)) for _ in range(operands)]
     assert next(rest, None) is None, line
     said, results = answer(answer_line.split(" "))
-    length = len(results[0]) if results else 0
-    assert all(len(r) == length for r in results), answer_line
-    head = bytes([KINDS.index(words[0]), side]) + length.to_bytes(2, "little")
-    lengths = pair(map(len, given))
-    return head + word(number) + pair(rooms) + lengths + word(said) + two(*total(b"".join(results))) + b"".join(given)
+    head = bytes([KINDS.index(words[0]), side, 0, 0])
+    return head + word(number) + pair(rooms) + pair(map(len, given)) + word(said) + pair(map(len, results)) + b"".join(given + results)
 
 
 def ending(line, length):
-    """How many bytes are summed, and their sum."""
+    """How many bytes are summed, their sum, and the bytes where the sample has them."""
     words = line.split(" ")
     if words[0] == "ledger-sum":
-        return int(words[1]), (int(words[2]), int(words[3]))
+        return int(words[1]), (int(words[2]), int(words[3])), b""
     used = unhex(words[1])[:length]
-    return len(used), total(used)
+    return len(used), total(used), used
 
 
 def one_list(number, lines):
@@ -118,11 +117,11 @@ def one_list(number, lines):
     length = int(lines[1].split(" ")[1])
     body = lines[2:-1]
     calls = [call(a, b) for a, b in zip(body[::2], body[1::2], strict=True)]
-    used, sums = ending(lines[-1], length)
+    used, sums, given = ending(lines[-1], length)
     head = word(number) + word(length) + word(len(calls)) + word(used) + two(*sums)
     counts = collections.Counter(line.split(" ")[0] for line in body[::2])
     counts.update(" ".join(line.split(" ")[:2]) if line.startswith("refused") else "yes" for line in body[1::2])
-    return head + b"".join(calls), counts
+    return head + b"".join(calls) + word(len(given)) + given, counts
 
 
 def report(lists, counts):

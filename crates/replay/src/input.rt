@@ -13,13 +13,13 @@ pub struct Heading {
     pub kind: u8,
     pub one: u8,
     pub result: usize,
+    pub result2: usize,
     pub number: usize,
     pub room: usize,
     pub room2: usize,
     pub operand: usize,
     pub operand2: usize,
     pub answer: usize,
-    pub sum: Sums,
 }
 
 fn wide(b: u8) -> usize
@@ -65,18 +65,18 @@ pub fn head() -> Heading {
     let rooms = four();
     let operands = four();
     let answer = number();
-    let s = sum();
+    let results = four();
     Heading {
         kind: k[0],
         one: k[1],
-        result: high(&k),
+        result: low(&results),
+        result2: high(&results),
         number: n,
         room: low(&rooms),
         room2: high(&rooms),
         operand: low(&operands),
         operand2: high(&operands),
         answer: answer,
-        sum: s,
     }
 }
 

@@ -1,4 +1,5 @@
 // What the engine answered and wrote, held against what is expected.
+use crate::input;
 use crate::input::Heading;
 use crate::input::Sums;
 use crate::lend::FILL;
@@ -56,13 +57,28 @@ fn same(x: Sums, y: Sums) -> bool {
     x.a == y.a && x.b == y.b
 }
 
-// The results in front of the outputs; the other bytes stayed. An output that the call does not have is empty.
-pub fn written(h: Heading, out: &[u8], second: &[u8]) -> bool {
-    let n = h.result;
-    let one = sum(out, n, Sums { a: 1, b: 0 });
-    let both = sum(second, n, one);
-    let want = h.sum;
-    same(both, want) && rest(out, n, FILL) && rest(second, n, FILL)
+// Whether the slice begins with the bytes.
+fn begins(s: &[u8], want: &[u8]) -> bool {
+    let n = want.len();
+    if s.len() < n {
+        return false;
+    }
+    formula::same(&s[..n], want)
+}
+
+// Reads a result of n bytes: the output begins with it, and its other bytes stayed. An output that the call does not have is empty.
+pub fn written(n: usize, out: &[u8]) -> bool {
+    let mut space = io::buffer();
+    let want: &[u8] = input::bytes(&mut space, n);
+    begins(out, want) && rest(out, n, FILL)
+}
+
+// Reads how many bytes of the ledger are given, and these: it begins with them.
+pub fn given(l: &[u8]) -> bool {
+    let n = input::number();
+    let mut space = io::buffer();
+    let want: &[u8] = input::bytes(&mut space, n);
+    begins(l, want)
 }
 
 // The ledger's used bytes by their sum; the others are zero.

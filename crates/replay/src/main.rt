@@ -88,7 +88,9 @@ fn call(l: &mut [u8], t: &mut [usize; 23]) -> bool {
     let p: &mut [u8] = lend::part(&mut second, h.room2);
     let said = ask(l, h, a, b, o, p);
     tally::call(t, h.kind as usize, said);
-    judge::answered(h, said) && judge::written(h, o, p)
+    let one = judge::written(h.result, o);
+    let two = judge::written(h.result2, p);
+    judge::answered(h, said) && one && two
 }
 
 // A line where something differs: the list, and the call from 1 on, or 0 for the ledger behind the last call.
@@ -125,7 +127,8 @@ fn list(l: &mut [u8], n: usize, t: &mut [usize; 23]) {
     let used = input::number();
     let sum = input::sum();
     calls(l, n, count, t);
-    note(t, n, 0, judge::ledger(l, used, sum));
+    let whole = judge::given(l);
+    note(t, n, 0, whole && judge::ledger(l, used, sum));
 }
 
 // The next list; false where none is left or its ledger has no room.
