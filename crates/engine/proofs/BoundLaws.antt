@@ -22,8 +22,8 @@ use Rattle.engine.specs.declared.Refusal.{Refusal}
 use Rattle.engine.specs.declared.Answer.{Answer}
 use Rattle.engine.specs.declared.Answer.the-variants.{Refused}
 use Rattle.engine.specs.declared.door.Gate.the-variants.{Shut}
-use Rattle.engine.specs.Replying.{said, Replies, boundedCall}
-use Rattle.engine.specs.Asking.{ledgerGate, operandGate}
+use Rattle.engine.specs.Replying.{said, Replies}
+use Rattle.engine.specs.Asking.{boundedCall, ledgerGate, operandGate}
 use Rattle.engine.specs.Ending.{Ending}
 use Rattle.engine.proofs.GateLaws.{OneOperand, one-shut}
 use Rattle.engine.proofs.ReplyLaws.{finished, replied, finished-none, refuses, read-known}

@@ -31,8 +31,8 @@ use Rattle.transforms.proofs.ImageLaws.{operand-known}
 use Rattle.engine.specs.declared.Refusal.{Refusal}
 use Rattle.engine.specs.declared.Made.the-variants.{Refused}
 use Rattle.engine.specs.declared.door.Gate.the-variants.{Shut}
-use Rattle.engine.specs.Replying.{saidOne, Replies, transformCall}
-use Rattle.engine.specs.Asking.{ledgerGate, operandGate, operandsGate}
+use Rattle.engine.specs.Replying.{saidOne, Replies}
+use Rattle.engine.specs.Asking.{transformCall, ledgerGate, operandGate, operandsGate}
 use Rattle.engine.proofs.GateLaws.{OneOperand, one-shut, TwoOperands, two-shut}
 use Rattle.engine.proofs.ReplyLaws.{read-known}
 use Rattle.engine.proofs.ResultLaws.{Computed, computed, OneResult}

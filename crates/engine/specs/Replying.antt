@@ -2,10 +2,6 @@
 use mathlib.Core.Path.{_≡_}
 use mathlib.Core.List.{List, [], _∷_}
 use Prim.Native.Nat.{ℕ}
-use Rattle.formula.specs.declared.Sort.{Sort}
-use Rattle.formula.specs.declared.Sort.the-variants.{Faces, Intervals}
-use Rattle.formula.specs.declared.Op.{Op as Asked}
-use Rattle.formula.specs.declared.Op.the-variants.{DShift, DSubst}
 use Rattle.formula.specs.declared.Size.{Size}
 use Rattle.calculus.specs.Emit.{not-below, not-implied}
 use Rattle.calculus.specs.Refusal
@@ -51,13 +47,3 @@ saidBoth (refusedMade e) = refused (refusalOf e)
 -- The answer of a call on the bytes l, and every lent byte after it, are those of the model.
 pub record Replies (c : Call) (l : List ℕ) (a : Door.Answer) (l′ : List ℕ) (outs : List (List ℕ)) : Type 0 where
   pub equal : reply c l ≡ record { answer = a; ledger = l′; outputs = outs }
-
--- face and interval, by the sort.
-abbrev pub boundedCall : Sort → ℕ → List ℕ → Call
-boundedCall Faces d f = Door.face d f
-boundedCall Intervals d r = Door.interval d r
-
--- shift and substitute, by the operation.
-abbrev pub transformCall : Sort → Asked → List ℕ → List ℕ → List ℕ → Call
-transformCall s (DShift k) t r out = Door.shift s t k out
-transformCall s (DSubst k) t r out = Door.substitute s t k r out

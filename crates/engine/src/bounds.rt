@@ -10,7 +10,8 @@ ghost use Prim.Native.Nat.{_≤_};
 ghost use Rattle.calculus.specs.Door.{face as faceCall, interval as intervalCall};
 ghost use Rattle.ledger.specs.Ledger.{Led};
 ghost use Rattle.steps.specs.Trees.{Known};
-ghost use Rattle.engine.specs.Replying.{said, Replies, boundedCall};
+ghost use Rattle.engine.specs.Replying.{said, Replies};
+ghost use Rattle.engine.specs.Asking.{boundedCall};
 
 // The call once questions 1 to 4 are answered.
 fn run(l: &mut [u8], sort: Sort, d: usize, f: &[u8]) -> Answer

@@ -17,7 +17,8 @@ ghost use Rattle.calculus.specs.Door.{shift as shiftCall, substitute as substit
 ghost use Rattle.ledger.specs.Ledger.{Led};
 ghost use Rattle.steps.specs.Trees.{treeOf, Known};
 ghost use Rattle.transforms.specs.Transforms.{opOf, KnownOp};
-ghost use Rattle.engine.specs.Replying.{saidOne, Replies, transformCall};
+ghost use Rattle.engine.specs.Replying.{saidOne, Replies};
+ghost use Rattle.engine.specs.Asking.{transformCall};
 ghost use Rattle.engine.specs.Ending.{Result};
 
 // The call once its result is known to fit.
