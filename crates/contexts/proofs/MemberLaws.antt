@@ -22,13 +22,10 @@ use Rattle.steps.specs.declared.Ran.{Ran}
 use Rattle.steps.specs.declared.Ran.the-variants.{NotImplied}
 use Rattle.steps.specs.Running.{doneBy, stepBy, Runs, Emits}
 use Rattle.steps.specs.Trees.{Is}
-use Rattle.steps.proofs.RunLaws.{runs-failure, emits-by}
+use Rattle.steps.proofs.RunLaws.{true-false, runs-failure, emits-by}
 use Rattle.contexts.specs.Contexts.{Are, contextOf}
 use Rattle.contexts.proofs.AfterLaws.{after, after-stop, after-up}
 use Rattle.contexts.proofs.ContextLaws.{context-of, field, tail, First, first-of}
-
-true-false : {A : Type 0} → true ≡ false → A
-true-false e = absurd (let z : _≡_ {A = ℕ} 0 1 = cc in omega arith)
 
 -- Faces are the same where their bytes are.
 pub same-face : {x f : Face} {h k : List ℕ} → Is Faces x h → Is Faces f k → sameBytes h k ≡ true → x ≡ f

@@ -1,7 +1,6 @@
 // Moves that leave nothing to search: the goal or ff is in the context, or two literals clash.
 use crate::contexts;
 use crate::members;
-use crate::moves;
 use steps::Ran;
 ghost use mathlib.Core.Path.{_≡_};
 ghost use mathlib.Core.List.{[], _∷_};
@@ -69,11 +68,11 @@ pub fn by_clash(l: &mut [u8], k: usize, n: usize, g: &[u8], goal: &[u8]) -> Ran
     requires { ⌜ Led (now l) × (k < 255) × Context n (now g) × Known Faces (now goal) ⌝ }
     ensures { λ r. ⌜ Runs (now (l .entry)) (coverClash k (contextOf n (now (g .entry))) (treeOf Faces (now (goal .entry)))) r (now (l .exit)) ⌝ }
 {
-    let r = members::member(l, &moves::literal(2, k), n, g);
+    let r = members::member(l, &steps::literal(2, k), n, g);
     if !steps::is_done(r) {
         return r;
     }
-    let s = members::member(l, &moves::literal(3, k), n, g);
+    let s = members::member(l, &steps::literal(3, k), n, g);
     if !steps::is_done(s) {
         return s;
     }

@@ -1,11 +1,8 @@
 // The next move of the search: tests of the context, in the order of the tries.
 use formula::Sort;
 ghost use mathlib.Core.Path.{_≡_};
-ghost use mathlib.Core.List.{_∷_};
 ghost use Prim.Native.Nat.{_≤_, _<_};
 ghost use Rattle.formula.specs.declared.Sort.the-variants.{Faces};
-ghost use Rattle.formula.specs.Bytes.{dimBytes};
-ghost use Rattle.formula.specs.Answers.{dimSpace};
 ghost use Rattle.calculus.specs.Search.{has, clashOf, tryClash};
 ghost use Rattle.steps.specs.Trees.{treeOf, Known};
 ghost use Rattle.contexts.specs.Contexts.{contextOf, Context};
@@ -15,17 +12,6 @@ ghost use Rattle.contexts.specs.Moves.{clashBy, FirstCompound};
 pub enum Clash {
     Of(usize),
     Free,
-}
-
-// The literal of kind byte b at dimension k.
-pub(crate) fn literal(b: u8, k: usize) -> [u8; 2]
-    requires { ⌜ k < dimSpace ⌝ }
-    ensures { λ r. ⌜ r ≡ b ∷ dimBytes k ⌝ }
-{
-    let mut f = [0u8; 2];
-    f[0] = b;
-    formula::put_dim(&mut f, 1, k);
-    f
 }
 
 // Whether f is in the context.
@@ -56,7 +42,7 @@ fn opposed(x: &[u8], n: usize, g: &[u8]) -> Clash
         return Clash::Free;
     }
     let k = formula::dim_at(x, 1);
-    if has(&literal(5 - b, k), n, g) {
+    if has(&steps::literal(5 - b, k), n, g) {
         return Clash::Of(k);
     }
     Clash::Free

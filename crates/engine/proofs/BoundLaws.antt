@@ -17,6 +17,7 @@ use Rattle.ledger.specs.Ledger.{stepsOf, Led}
 use Rattle.steps.specs.declared.Ran.{Ran}
 use Rattle.steps.specs.Running.{Runs}
 use Rattle.steps.specs.Trees.{treeOf, Known}
+use Rattle.steps.proofs.TreeLaws.{read-known}
 use Rattle.steps.specs.Programs.{bounded, emitBounded}
 use Rattle.engine.specs.declared.Refusal.{Refusal}
 use Rattle.engine.specs.declared.Answer.{Answer}
@@ -26,7 +27,7 @@ use Rattle.engine.specs.Replying.{said, Replies}
 use Rattle.engine.specs.Asking.{boundedCall, ledgerGate, operandGate}
 use Rattle.engine.specs.Ending.{Ending}
 use Rattle.engine.proofs.GateLaws.{OneOperand, one-shut}
-use Rattle.engine.proofs.ReplyLaws.{finished, replied, finished-none, refuses, read-known}
+use Rattle.engine.proofs.ReplyLaws.{finished, replied, finished-none, refuses}
 
 boundedTask : (s : Sort) → ℕ → Tree s → Task
 boundedTask s d t = record { operands = item number d ∷ item (formula s) t ∷ []; results = []; own = bounded s d t; program = emitBounded s d t }

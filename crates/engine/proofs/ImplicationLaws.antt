@@ -20,6 +20,7 @@ use Rattle.ledger.specs.Ledger.{stepsOf, Led}
 use Rattle.steps.specs.declared.Ran.{Ran}
 use Rattle.steps.specs.Running.{Runs}
 use Rattle.steps.specs.Trees.{treeOf, Known}
+use Rattle.steps.proofs.TreeLaws.{read-known}
 use Rattle.engine.specs.declared.Refusal.{Refusal}
 use Rattle.engine.specs.declared.Answer.{Answer}
 use Rattle.engine.specs.declared.Answer.the-variants.{Refused}
@@ -28,7 +29,7 @@ use Rattle.engine.specs.Replying.{said, Replies}
 use Rattle.engine.specs.Asking.{ledgerGate, operandsGate}
 use Rattle.engine.specs.Ending.{Ending}
 use Rattle.engine.proofs.GateLaws.{TwoOperands, two-shut}
-use Rattle.engine.proofs.ReplyLaws.{replied, finished-none, read-known}
+use Rattle.engine.proofs.ReplyLaws.{replied, finished-none}
 
 module _ (d : ℕ) (s : Sort) (t : Tree s) (z : Sort) (u : Tree z) where
   numbered-few : every fewNodes (item number d ∷ item (formula s) t ∷ item (formula z) u ∷ []) ≡ (leb (nodes s t) maxNodes && leb (nodes z u) maxNodes)

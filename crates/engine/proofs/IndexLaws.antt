@@ -26,6 +26,7 @@ use Rattle.calculus.specs.Door.{Call, Item, item, Task, transformTask, taskOf, 
 use Rattle.calculus.proofs.Doors.{ItemsKeep}
 use Rattle.ledger.specs.Ledger.{Led}
 use Rattle.steps.specs.Trees.{treeOf, Known}
+use Rattle.steps.proofs.TreeLaws.{read-known}
 use Rattle.transforms.specs.Transforms.{opOf, KnownOp}
 use Rattle.transforms.proofs.ImageLaws.{operand-known}
 use Rattle.engine.specs.declared.Refusal.{Refusal}
@@ -34,7 +35,6 @@ use Rattle.engine.specs.declared.door.Gate.the-variants.{Shut}
 use Rattle.engine.specs.Replying.{saidOne, Replies}
 use Rattle.engine.specs.Asking.{transformCall, ledgerGate, operandGate, operandsGate}
 use Rattle.engine.proofs.GateLaws.{OneOperand, one-shut, TwoOperands, two-shut}
-use Rattle.engine.proofs.ReplyLaws.{read-known}
 use Rattle.engine.proofs.ResultLaws.{Computed, computed, OneResult}
 
 -- An index is low where it is below 255.

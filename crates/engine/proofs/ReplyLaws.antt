@@ -8,9 +8,7 @@ use native.Mathlib.Omega.{arith}
 use lib.ListN.{length, drop}
 use lib.Seq.{sets, sets-eq}
 use borrow.Author.Tests.{le-leb}
-use Rattle.formula.specs.declared.Sort.{Sort}
-use Rattle.formula.specs.Bytes.{readAll, maxNodes, maxBound}
-use Rattle.formula.proofs.Reading.{readAll-encode}
+use Rattle.formula.specs.Bytes.{maxNodes, maxBound}
 use Rattle.calculus.specs.Judgement.{Step}
 use Rattle.calculus.specs.Record.{nodesIn, boundIn, fewNodes, lowBound, size, stepsBytes, ledgerBytes}
 use Rattle.calculus.specs.Emit.{Failure, not-below, not-implied, Program, Outcome, done, stopped, full, within, run}
@@ -26,7 +24,6 @@ use Rattle.ledger.proofs.LedgerLaws.{holds-steps}
 use Rattle.steps.specs.declared.Ran.{Ran}
 use Rattle.steps.specs.declared.Ran.the-variants.{Done, NotBelow, NotImplied, Full}
 use Rattle.steps.specs.Running.{Leaves, Ends, Runs}
-use Rattle.steps.specs.Trees.{treeOf, Known}
 use Rattle.steps.proofs.RunLaws.{runs-grew, runs-led}
 use Rattle.engine.specs.declared.Refusal.{Refusal}
 use Rattle.engine.specs.declared.Refusal.the-variants.{FullLedger}
@@ -119,10 +116,6 @@ finished-none (Refused e) l = refl
 -- A refusal with every byte as it was.
 pub refuses : (c : Call) (l : List ℕ) (e : Refusal) → reply c l ≡ refuse (refusalOf e) l (outputsOf c) → Replies c l (said (Refused e)) l (outputsOf c)
 refuses c l e h = record { equal = h }
-
--- Known bytes are read.
-pub read-known : {s : Sort} {f : List ℕ} → Known s f → readAll s f ≡ some (treeOf s f)
-read-known {s} {f} h = ap (readAll s) (h .bytes) ∙ readAll-encode s (treeOf s f)
 
 -- A result written in front.
 pub set-front : (x d : List ℕ) → length x ≤ length d → sets d 0 x ≡ x ++ drop (length x) d

@@ -28,6 +28,7 @@ use Rattle.ledger.specs.Ledger.{stepsOf, Led}
 use Rattle.steps.specs.declared.Ran.{Ran}
 use Rattle.steps.specs.Running.{Runs}
 use Rattle.steps.specs.Trees.{treeOf, Known}
+use Rattle.steps.proofs.TreeLaws.{read-known}
 use Rattle.steps.specs.Programs.{Sides}
 use Rattle.steps.proofs.BoundaryLaws.{side-is}
 use Rattle.transforms.proofs.ImageLaws.{zero-front, one-front}
@@ -42,7 +43,7 @@ use Rattle.engine.specs.Replying.{measureOf, saidBoth, Replies}
 use Rattle.engine.specs.Asking.{ledgerGate, operandGate}
 use Rattle.engine.specs.Ending.{Ending, madeBy, outBy, BothResults}
 use Rattle.engine.proofs.GateLaws.{OneOperand, one-shut}
-use Rattle.engine.proofs.ReplyLaws.{finished, too-short, replied, read-known}
+use Rattle.engine.proofs.ReplyLaws.{finished, too-short, replied}
 
 sidesTask : Interval → Task
 sidesTask r = record {

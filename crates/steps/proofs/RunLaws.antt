@@ -25,7 +25,7 @@ use Rattle.steps.specs.declared.Ran.{Ran}
 use Rattle.steps.specs.declared.Ran.the-variants.{Done, NotBelow, NotImplied, Full}
 use Rattle.steps.specs.Running.{doneBy, stepBy, failedBy, Leaves, Grew, Ends, Runs, Emits}
 
-true-false : {A : Type 0} → true ≡ false → A
+pub true-false : {A : Type 0} → true ≡ false → A
 true-false e = absurd (let z : _≡_ {A = ℕ} 0 1 = cc in omega arith)
 
 -- How a run ended, by what was answered ---------------------------------------------------------

@@ -2,8 +2,10 @@
 use crate::Ran;
 use crate::parts;
 ghost use mathlib.Core.Path.{_≡_};
+ghost use mathlib.Core.List.{_∷_};
 ghost use Prim.Native.Nat.{_≤_, _<_};
 ghost use Rattle.formula.specs.Bytes.{dimBytes};
+ghost use Rattle.formula.specs.Answers.{dimSpace};
 ghost use Rattle.calculus.specs.Calls.{fromZero, comparedKind, emitComparison};
 ghost use Rattle.ledger.specs.Ledger.{Led};
 ghost use Rattle.steps.specs.Running.{Runs, order};
@@ -16,6 +18,17 @@ pub fn number(n: usize) -> [u8; 1]
     let mut field = [0u8; 1];
     formula::put_dim(&mut field, 0, n);
     field
+}
+
+// The node of kind byte b on dimension k: a literal of a face, or a dimension.
+pub fn literal(b: u8, k: usize) -> [u8; 2]
+    requires { ⌜ k < dimSpace ⌝ }
+    ensures { λ r. ⌜ r ≡ b ∷ dimBytes k ⌝ }
+{
+    let mut f = [0u8; 2];
+    f[0] = b;
+    formula::put_dim(&mut f, 1, k);
+    f
 }
 
 // The comparison of zero with n.

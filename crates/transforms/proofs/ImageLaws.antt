@@ -16,14 +16,13 @@ use Rattle.formula.specs.declared.Outcome.{Outcome}
 use Rattle.formula.specs.declared.Outcome.the-variants.{Ill, Over, Short, Done}
 use Rattle.formula.specs.Formula.{End, lo, hi}
 use Rattle.formula.specs.Operations.{boundary, shift, subst}
-use Rattle.formula.specs.Bytes.{Tree, encode, readAll, nodes, bound, maxNodes, maxBound}
+use Rattle.formula.specs.Bytes.{Tree, encode, nodes, bound, maxNodes, maxBound}
 use Rattle.formula.specs.Answers.{sizeOf, Kept, kept, limited, asOperand, operand, ofOne, ofTwo, boundaried, transform, transformed, outcome, written, Answered, AnsweredBoth}
-use Rattle.formula.proofs.Reading.{readAll-encode}
 use Rattle.formula.proofs.ResultLaws.{boundary-sizes}
 use Rattle.steps.specs.Trees.{Is, treeOf, Known}
 use Rattle.steps.specs.Programs.{Sides}
 use Rattle.transforms.specs.Transforms.{opOf, KnownOp}
-use Rattle.steps.proofs.TreeLaws.{is-short}
+use Rattle.steps.proofs.TreeLaws.{read-known, is-short}
 use Rattle.steps.proofs.BoundaryLaws.{side-is}
 
 -- What keeps the limits is kept.
@@ -32,7 +31,7 @@ limited-is {s} {t} h = rw (le-leb (nodes s t) maxNodes (h .few), le-leb (bound s
 
 pub operand-known : {s : Sort} {l : List ℕ} → Known s l → operand s l ≡ kept (treeOf s l)
 unfolding operand
-operand-known {s} {l} h = ap (asOperand s) (ap (readAll s) (h .bytes) ∙ readAll-encode s (treeOf s l)) ∙ limited-is h
+operand-known {s} {l} h = ap (asOperand s) (read-known h) ∙ limited-is h
 
 transformed-known : {l x : List ℕ} (r : List ℕ) (s : Sort) (o : Asked) → Known s l → KnownOp o r → Is s (transform s (opOf o r) (treeOf s l)) x → transformed s o l r ≡ kept (transform s (opOf o r) (treeOf s l))
 unfolding transformed

@@ -10,8 +10,7 @@ ghost use mathlib.Core.List.{[], _∷_};
 ghost use Prim.Native.Nat.{_+_, _≤_, _<_};
 ghost use lib.ListN.{length, getD, take};
 ghost use Rattle.formula.specs.Operations.{shift, subst};
-ghost use Rattle.formula.specs.Bytes.{dimBytes, encode};
-ghost use Rattle.formula.specs.Answers.{dimSpace};
+ghost use Rattle.formula.specs.Bytes.{encode};
 ghost use Rattle.calculus.specs.Calls.{transform as transformOf, emitBoundary, emitIntervals, emitFaces, emitTransform};
 ghost use Rattle.ledger.specs.Ledger.{Led};
 ghost use Rattle.steps.specs.Running.{Runs, Emits};
@@ -171,16 +170,6 @@ fn transform_dimension(l: &mut [u8], op: Op, n: usize, f: &[u8], t: &[u8], out: 
     }
 }
 
-// The bytes of dimension n as an interval.
-fn dim_node(n: usize) -> [u8; 2]
-    requires { ⌜ n < dimSpace ⌝ }
-    ensures { λ r. ⌜ r ≡ 18 ∷ dimBytes n ⌝ }
-{
-    let mut node = [18u8; 2];
-    formula::put_dim(&mut node, 1, n);
-    node
-}
-
 // What an interval becomes, into the front of out; answers its length. It keeps the limits, so there is always a result.
 fn image(op: Op, r: &[u8], t: &[u8], out: &mut [u8]) -> usize
     requires { ⌜ Known Sort.Intervals (now r) × KnownOp op (now t) × Is Sort.Intervals (transformOf Sort.Intervals (opOf op (now t)) (treeOf Sort.Intervals (now r))) (encode Sort.Intervals (transformOf Sort.Intervals (opOf op (now t)) (treeOf Sort.Intervals (now r)))) × (1022 ≤ length (now out)) ⌝ }
@@ -219,7 +208,7 @@ fn face_literal(l: &mut [u8], op: Op, n: usize, f: &[u8], t: &[u8], out: &[u8]) 
     requires { ⌜ Led (now l) × Known Sort.Faces (now f) × KnownOp op (now t) × Literal Sort.Faces n (now f) × Is Sort.Faces (transformOf Sort.Faces (opOf op (now t)) (treeOf Sort.Faces (now f))) (now out) ⌝ }
     ensures { λ r. ⌜ Runs (now (l .entry)) (emitFaces (opOf op (now (t .entry))) (treeOf Sort.Faces (now (f .entry)))) r (now (l .exit)) ⌝ }
 {
-    let node = dim_node(n);
+    let node = steps::literal(18, n);
     let mut became = [0u8; 1024];
     let m = image(op, &node, t, &mut became);
     let a = transform_dimension(l, op, n, &node, t, &became[..m]);
