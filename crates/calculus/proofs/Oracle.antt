@@ -8,7 +8,7 @@ use lib.ListN.{replicate}
 use Rattle.formula.specs.declared.Sort.the-variants.{Faces, Intervals}
 use Rattle.calculus.specs.Emit.{not-below, not-implied}
 use Rattle.calculus.specs.Refusal.{full-ledger, failing}
-use Rattle.calculus.specs.Door.{Call, face, interval, boundary, endpoint, forall, shift, substitute, entails, Answer, answered, refused, Reply, reply}
+use Rattle.calculus.specs.Door.{Call, face, interval, boundary, endpoint, forall, shift, substitute, entails, Answer, answered, refused, reply}
 use Rattle.calculus.specs.Demand.{after, empty}
 use Rattle.calculus.proofs.Replies.{model}
 

@@ -6,7 +6,7 @@ use mathlib.Core.List.{List, [], _∷_, map, List·Memᴰ, List·Memᴰ·head, L
 use Prim.Native.Nat.{ℕ, zero, suc, _≤_, _<_, compare, Ordering, Ordering·lt, Ordering·eq, Ordering·gt}
 use native.Mathlib.Omega.{arith}
 use lib.ListN.{length}
-use Rattle.formula.specs.Formula.{End, lo, hi, Face, at, fand, for, Interval, i0, i1, dim, neg, meet, join, Val, v0, v1, vu, negV, meetV, joinV, is, Assignment, value, holds, beside, raised}
+use Rattle.formula.specs.Formula.{End, lo, hi, Face, fand, for, Interval, i0, i1, dim, neg, meet, join, Val, v0, v1, vu, negV, meetV, joinV, is, Assignment, value, holds, beside, raised}
 use Rattle.formula.specs.Operations
 use Rattle.formula.specs.Bytes.{boundFace, boundInterval}
 use Rattle.formula.proofs.Compare.{compare-lt, compare-eq, compare-gt, Stands, stands}

@@ -7,7 +7,7 @@ use Rattle.formula.specs.Formula.{End, lo, hi, Face, ff, ft, at, fand, for, Int
 use Rattle.formula.specs.Operations
 use Rattle.formula.specs.Operations.{Op, shift, subst, dimTo}
 use Rattle.formula.specs.Bytes.{Tree, nodesFace}
-pub use Rattle.formula.specs.Answers.{transform}
+pub use Rattle.formula.specs.Operations.{transform}
 use Rattle.calculus.specs.Judgement.{Judgement, lt, le, interval, face, member, take, cover, entails, boundary, local, fforall, ishift, isubst, fshift, fsubst, sameFace}
 use Rattle.calculus.specs.Search.{Move, by-top, by-hit, by-absurd, by-clash, by-and-left, by-or-left, by-and-right, by-or-right, stuck, move, nodesContext}
 use Rattle.calculus.specs.Emit.{not-below, not-implied, Program, stop, emit, _>>=_, attempt}

@@ -1,7 +1,7 @@
 -- A face of a context, where it lies and what is left without it.
-use Prim.Native.Nat.{ℕ, zero, suc, _+_, _-_, _≤_, _<_, max}
+use Prim.Native.Nat.{ℕ, zero, suc, _+_, _-_, _≤_, _<_}
 use native.Mathlib.Omega.{arith}
-use mathlib.Core.Path.{_≡_, refl, sym, ap, ap₂, _∙_, subst}
+use mathlib.Core.Path.{_≡_, refl, sym, ap, ap₂, _∙_}
 use mathlib.Core.List.{List, [], _∷_, _++_, append-assoc}
 use lib.ListN.{length, getD, take, drop, length-append, length-drop, take-append-drop}
 use lib.Seq.{take-all, length-take-le, drop-append-seam, take-at, drop-at, split-at, sets, length-sets, sets-eq}
@@ -14,7 +14,6 @@ use Rattle.calculus.specs.Search.{nodesContext}
 use Rattle.calculus.specs.Record.{facesBytes, boundContext}
 use Rattle.calculus.proofs.Searching.{left-out, nodes-left-out}
 use Rattle.records.proofs.NumberLaws.{sets-append}
-use Rattle.steps.specs.Trees.{Is}
 use Rattle.contexts.specs.Contexts.{Are, contextOf, leave, Leaves, cut, At}
 use Rattle.contexts.proofs.ContextLaws.{context-of, context-short, tail, First, first-of}
 

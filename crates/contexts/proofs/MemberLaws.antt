@@ -1,13 +1,13 @@
 -- Members of a context, face by face.
-use Prim.Native.Nat.{ℕ, zero, suc, _+_, _-_, _≤_, _<_}
+use Prim.Native.Nat.{ℕ, _+_, _-_}
 use native.Mathlib.Omega.{arith}
-use mathlib.Core.Path.{_≡_, refl, sym, ap, ap₂, _∙_, subst, subst₂}
-use mathlib.Core.Bool.{Bool, true, false}
+use mathlib.Core.Path.{_≡_, refl, sym, ap, ap₂, _∙_, subst}
+use mathlib.Core.Bool.{true, false}
 use mathlib.Core.List.{List, [], _∷_, _++_}
 use lib.ListN.{length}
 use Rattle.formula.specs.declared.Sort.the-variants.{Faces}
 use Rattle.formula.specs.Formula.{Face}
-use Rattle.formula.specs.Bytes.{encode, encodeFace}
+use Rattle.formula.specs.Bytes.{encode}
 use Rattle.formula.specs.Answers.{sameBytes, partAt}
 use Rattle.formula.proofs.ByteLaws.{same-refl, same-true}
 use Rattle.formula.proofs.Reading.{encode-injective}

@@ -1,6 +1,6 @@
 -- Contexts as bytes: a count, and so many faces one after another.
 use mathlib.Core.Path.{_≡_}
-use mathlib.Core.List.{List, [], _∷_, _++_}
+use mathlib.Core.List.{List, [], _++_}
 use Prim.Native.Nat.{ℕ, suc, _≤_, _<_}
 use lib.ListN.{length, getD, take, drop}
 use Rattle.formula.specs.declared.Sort.the-variants.{Faces}

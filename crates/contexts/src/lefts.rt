@@ -4,7 +4,6 @@ ghost use mathlib.Core.List.{_++_};
 ghost use Prim.Native.Nat.{_+_, _≤_};
 ghost use Prim.Native.Nat.{suc};
 ghost use lib.ListN.{length, getD, take, drop};
-ghost use Rattle.formula.specs.declared.Sort.the-variants.{Faces};
 ghost use Rattle.formula.specs.Formula.{ff};
 ghost use Rattle.calculus.specs.Record.{facesBytes};
 ghost use Rattle.calculus.specs.Calls.{emitTake};

@@ -2,7 +2,6 @@
 use crate::contexts;
 use formula::Sort;
 use steps::Ran;
-ghost use mathlib.Core.Path.{_≡_};
 ghost use Rattle.formula.specs.declared.Sort.the-variants.{Faces};
 ghost use Rattle.calculus.specs.Calls.{emitMember};
 ghost use Rattle.ledger.specs.Ledger.{Led};

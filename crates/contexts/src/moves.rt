@@ -1,7 +1,7 @@
 // The next move of the search: tests of the context, in the order of the tries.
 use formula::Sort;
 ghost use mathlib.Core.Path.{_≡_};
-ghost use Prim.Native.Nat.{_≤_, _<_};
+ghost use Prim.Native.Nat.{_≤_};
 ghost use Rattle.formula.specs.declared.Sort.the-variants.{Faces};
 ghost use Rattle.calculus.specs.Search.{has, clashOf, tryClash};
 ghost use Rattle.steps.specs.Trees.{treeOf, Known};

@@ -2,7 +2,6 @@
 use crate::contexts;
 use formula::Sort;
 use steps::Ran;
-ghost use mathlib.Core.Path.{_≡_};
 ghost use Prim.Native.Nat.{suc};
 ghost use lib.ListN.{getD, drop, take};
 ghost use Rattle.formula.specs.Formula.{ff};

@@ -13,11 +13,11 @@ use lib.Seq.{getD-set-same, getD-set-other}
 use Rattle.calculus.specs.Judgement.{Step}
 use Rattle.calculus.specs.Table.{Entry, entry, unlisted, table, entryOf, predicate}
 use Rattle.calculus.specs.Rules.{Rule, stepAt, judgementAt, Follows}
-use Rattle.records.specs.Kinds.{numberOf}
+use Rattle.kinds.specs.Kinds.{numberOf}
 use Rattle.ledger.specs.Ledger.{stepsOf, placeOf, Led, Points}
 use Rattle.ledger.proofs.LedgerLaws.{formed-at-0, below-one}
 use Rattle.ledger.proofs.PointLaws.{inside, points-operands}
-use Rattle.desk.specs.Standing.{Lies, AllStand, Decides, Ruled}
+use Rattle.rules.specs.Standing.{Lies, AllStand, Decides, Ruled}
 use Rattle.desk.specs.Walking.{Indexed, Claimed, Filled, Fills, cited}
 
 -- At most three references ------------------------------------------------------------------------

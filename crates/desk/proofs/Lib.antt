@@ -1,9 +1,3 @@
-pub mod Parts
-pub mod Binding
-pub mod Moving
-pub mod Turning
-pub mod RowTable
-pub mod Instances
 pub mod IndexLaws
 pub mod ClaimLaws
 pub mod PassLaws

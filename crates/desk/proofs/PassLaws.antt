@@ -17,7 +17,7 @@ use Rattle.ledger.specs.Checks.{counted}
 use Rattle.ledger.specs.Ledger.{stepsOf, placeOf, Led, Points}
 use Rattle.ledger.proofs.LedgerLaws.{holds-steps, holds-led}
 use Rattle.ledger.proofs.PointLaws.{Walks, walks-start, walks-next}
-use Rattle.desk.specs.Standing.{Decides}
+use Rattle.rules.specs.Standing.{Decides}
 use Rattle.desk.specs.Walking.{Indexed, Notes}
 use Rattle.desk.specs.Verdicts.{answerAs, inDocument, Answers}
 use Rattle.desk.specs.declared.Verdict.{Verdict as Answer}

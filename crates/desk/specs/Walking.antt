@@ -7,7 +7,7 @@ use lib.ListN.{length, getD}
 use Rattle.calculus.specs.Judgement.{Step}
 use Rattle.calculus.specs.Rules.{stepAt, judgementAt}
 use Rattle.ledger.specs.Ledger.{stepsOf, placeOf}
-use Rattle.desk.specs.Standing.{Stands}
+use Rattle.rules.specs.Standing.{Stands}
 
 -- The index holds the place of every 16th step below n.
 pub record Indexed (L : List Step) (n : ℕ) (index : List ℕ) : Type 0 where

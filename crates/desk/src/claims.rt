@@ -31,9 +31,9 @@ pub(crate) fn reference_count(l: &[u8], c: Cursor) -> usize
     requires { ⌜ Points (now l) (c .step) (c .at) ⌝ }
     ensures { λ r. ⌜ (r ≡ length ((stepAt (stepsOf (now (l .entry))) (c .step)) .references)) × (r < 4) ⌝ }
 {
-    match records::entry_of(c.kind(l)) {
-        records::Entry::Listed(n, _) => n,
-        records::Entry::Unlisted => 0,
+    match kinds::entry_of(c.kind(l)) {
+        kinds::Entry::Listed(n, _) => n,
+        kinds::Entry::Unlisted => 0,
     }
 }
 

@@ -5,13 +5,12 @@ use crate::index;
 use ledger::Checked;
 use ledger::Cursor;
 ghost use mathlib.Core.Path.{_≡_};
-ghost use Prim.Native.Nat.{_<_};
 ghost use lib.ListN.{length};
 ghost use Rattle.calculus.specs.Rules.{stepAt, Follows};
 ghost use Rattle.calculus.specs.Desk.{judged, deskAnswer};
 ghost use Rattle.calculus.proofs.Desk.{judge, desk};
 ghost use Rattle.ledger.specs.Ledger.{stepsOf, Led, Points};
-ghost use Rattle.desk.specs.Standing.{Decides};
+ghost use Rattle.rules.specs.Standing.{Decides};
 ghost use Rattle.desk.specs.Walking.{Indexed};
 ghost use Rattle.desk.specs.Verdicts.{answerAs, Answers};
 
@@ -26,7 +25,7 @@ fn follows_at(l: &[u8], index: &[usize; 10923], c: Cursor) -> bool
     claims::claim_step(l, c, 0, &mut preds, &mut from, &mut to);
     let n = claims::reference_count(l, c);
     claims::claim_references(l, index, c, n, &mut preds, &mut from, &mut to);
-    crate::follows(l, c.kind(l), &preds, &from, &to, n)
+    rules::follows(l, c.kind(l), &preds, &from, &to, n)
 }
 
 // The verdict on the n steps of a ledger.

@@ -2,40 +2,21 @@
 // The step desk is asked about the ledger and about each copy with one byte changed. tools/desk/damage.py writes the input.
 use desk::Verdict;
 use libc::STDIN_FILENO;
-use libc::STDOUT_FILENO;
-ghost use Prim.Native.Nat.{_<_};
 
-fn text(t: &[u8]) {
-    io::write_all(STDOUT_FILENO, t);
-}
-
-fn wide(b: u8) -> usize
-    ensures { λ r. ⌜ r < 256 ⌝ }
-{
-    b as usize
-}
-
-// The next four bytes; zeros where the input ends.
-fn four() -> [u8; 4] {
-    let mut b = [0u8; 4];
-    io::read_full(STDIN_FILENO, &mut b);
-    b
-}
-
-// A number of three bytes, the lowest first; the fourth is the new byte of a damage.
-fn number(b: &[u8; 4]) -> usize {
-    wide(b[0]) + 256 * (wide(b[1]) + 256 * wide(b[2]))
+// A damage has a place of three bytes, the lowest first, and the new byte behind it.
+fn place(b: &[u8; 4]) -> usize {
+    stdio::low(b) + 65536 * stdio::wide(b[2])
 }
 
 fn answer(word: &[u8], n: usize) {
-    text(word);
-    io::print_decimal(STDOUT_FILENO, n as u64);
+    stdio::text(word);
+    stdio::number(n);
 }
 
 // `1` for refusal 1, `@N` for refusal 10 at step N, `pN` for N steps passed.
 fn tell(v: Verdict) {
     match v {
-        Verdict::Ill => text(b"1"),
+        Verdict::Ill => stdio::text(b"1"),
         Verdict::Fails(n) => answer(b"@", n),
         Verdict::Passes(n) => answer(b"p", n),
     }
@@ -44,7 +25,7 @@ fn tell(v: Verdict) {
 // The desk's answer with the byte at a place changed; the byte is put back.
 fn damaged(l: &mut [u8], at: usize, byte: u8) {
     if l.len() <= at {
-        return text(b"?");
+        return stdio::text(b"?");
     }
     let old = l[at];
     l[at] = byte;
@@ -55,9 +36,9 @@ fn damaged(l: &mut [u8], at: usize, byte: u8) {
 // Sixteen answers to a line.
 fn gap(i: usize) {
     if i % 16 == 0 {
-        return text(b"\n ");
+        return stdio::text(b"\n ");
     }
-    text(b" ");
+    stdio::text(b" ");
 }
 
 // So many damages of the ledger.
@@ -65,23 +46,23 @@ fn damages(l: &mut [u8], count: usize) {
     let mut i = 0;
     while i < count {
         gap(i);
-        let b = four();
-        damaged(l, number(&b), b[3]);
+        let b = stdio::word();
+        damaged(l, place(&b), b[3]);
         i += 1;
     }
-    text(b"\n");
+    stdio::text(b"\n");
 }
 
 // A ledger as long as the slice, and its damages.
 fn ledger(l: &mut [u8]) {
     io::read_full(STDIN_FILENO, l);
     tell(desk::step_desk(l));
-    damages(l, number(&four()));
+    damages(l, stdio::read_number());
 }
 
 // The next ledger behind its length; false where none is left or there is no room.
 fn next(space: &mut [u8]) -> bool {
-    let n = number(&four());
+    let n = stdio::read_number();
     if n == 0 {
         return false;
     }

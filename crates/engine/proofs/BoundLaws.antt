@@ -1,7 +1,7 @@
 -- face and interval.
 use mathlib.Core.Path.{_≡_, refl, ap, _∙_, subst}
 use mathlib.Core.Bool.{Bool, _&&_, and-true}
-use mathlib.Core.Option.{Option, none, some}
+use mathlib.Core.Option.{none, some}
 use mathlib.Core.List.{List, [], _∷_}
 use Prim.Native.Nat.{ℕ, _≤_}
 use native.Mathlib.Omega.{arith}
@@ -9,25 +9,25 @@ use lib.Dec.{leb}
 use Rattle.formula.specs.declared.Sort.{Sort}
 use Rattle.formula.specs.declared.Sort.the-variants.{Faces, Intervals}
 use Rattle.formula.specs.Bytes.{Tree, readAll, nodes, bound, maxNodes, maxBound}
-use Rattle.formula.proofs.Reading.{readAll-encode}
 use Rattle.calculus.specs.Parse.{readLedger}
 use Rattle.calculus.specs.Record.{number, formula, size}
-use Rattle.calculus.specs.Door.{item, Task, taskOf, outputsOf, reply}
+use Rattle.calculus.specs.Door.{item, Task, taskOf, outputsOf}
 use Rattle.ledger.specs.Ledger.{stepsOf, Led}
 use Rattle.steps.specs.declared.Ran.{Ran}
 use Rattle.steps.specs.Running.{Runs}
 use Rattle.steps.specs.Trees.{treeOf, Known}
 use Rattle.steps.proofs.TreeLaws.{read-known}
 use Rattle.steps.specs.Programs.{bounded, emitBounded}
-use Rattle.engine.specs.declared.Refusal.{Refusal}
-use Rattle.engine.specs.declared.Answer.{Answer}
-use Rattle.engine.specs.declared.Answer.the-variants.{Refused}
-use Rattle.engine.specs.declared.door.Gate.the-variants.{Shut}
-use Rattle.engine.specs.Replying.{said, Replies}
-use Rattle.engine.specs.Asking.{boundedCall, ledgerGate, operandGate}
-use Rattle.engine.specs.Ending.{Ending}
-use Rattle.engine.proofs.GateLaws.{OneOperand, one-shut}
-use Rattle.engine.proofs.ReplyLaws.{finished, replied, finished-none, refuses}
+use Rattle.replies.specs.declared.Refusal.{Refusal}
+use Rattle.replies.specs.declared.Answer.{Answer}
+use Rattle.replies.specs.declared.Answer.the-variants.{Refused}
+use Rattle.replies.specs.declared.Gate.the-variants.{Shut}
+use Rattle.replies.specs.Replying.{said, Replies}
+use Rattle.engine.specs.Calls.{boundedCall}
+use Rattle.replies.specs.Asking.{ledgerGate, operandGate}
+use Rattle.replies.specs.Ending.{Ending}
+use Rattle.replies.proofs.GateLaws.{OneOperand, one-shut}
+use Rattle.replies.proofs.ReplyLaws.{finished, replied, finished-none, refuses}
 
 boundedTask : (s : Sort) → ℕ → Tree s → Task
 boundedTask s d t = record { operands = item number d ∷ item (formula s) t ∷ []; results = []; own = bounded s d t; program = emitBounded s d t }

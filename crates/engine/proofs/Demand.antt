@@ -1,6 +1,5 @@
 -- Demand 3 about the calls as exported: by their contracts, and by demand 3 of the calculus.
 use mathlib.Core.Path.{_≡_, refl, sym, ap, _∙_, subst}
-use mathlib.Core.Option.{some}
 use mathlib.Core.List.{List, [], _∷_, _++_}
 use Prim.Native.Nat.{ℕ, _≤_}
 use native.Mathlib.Omega.{arith}
@@ -17,8 +16,8 @@ use Rattle.desk.specs.Verdicts.{answerAs, Answers}
 use Rattle.desk.specs.declared.Verdict.{Verdict}
 use Rattle.desk.specs.declared.Verdict.the-variants.{Passes}
 use Rattle.desk.proofs.Verdicts.{passes-true, valid-passes}
-use Rattle.engine.specs.declared.Answer.{Answer}
-use Rattle.engine.specs.Replying.{said, Replies}
+use Rattle.replies.specs.declared.Answer.{Answer}
+use Rattle.replies.specs.Replying.{said, Replies}
 use Rattle.engine.specs.Exported
 use Rattle.engine.specs.Exported.{Exported, Calls, Passed, Demand3}
 

@@ -1,7 +1,6 @@
 -- entails and endpoint: calls with a number and two formulas.
 use mathlib.Core.Path.{_≡_, refl, ap, _∙_}
 use mathlib.Core.Bool.{Bool, _&&_, and-true}
-use mathlib.Core.Option.{none, some}
 use mathlib.Core.List.{List, [], _∷_}
 use Prim.Native.Nat.{ℕ, _≤_}
 use native.Mathlib.Omega.{arith}
@@ -21,15 +20,15 @@ use Rattle.steps.specs.declared.Ran.{Ran}
 use Rattle.steps.specs.Running.{Runs}
 use Rattle.steps.specs.Trees.{treeOf, Known}
 use Rattle.steps.proofs.TreeLaws.{read-known}
-use Rattle.engine.specs.declared.Refusal.{Refusal}
-use Rattle.engine.specs.declared.Answer.{Answer}
-use Rattle.engine.specs.declared.Answer.the-variants.{Refused}
-use Rattle.engine.specs.declared.door.Gate.the-variants.{Shut}
-use Rattle.engine.specs.Replying.{said, Replies}
-use Rattle.engine.specs.Asking.{ledgerGate, operandsGate}
-use Rattle.engine.specs.Ending.{Ending}
-use Rattle.engine.proofs.GateLaws.{TwoOperands, two-shut}
-use Rattle.engine.proofs.ReplyLaws.{replied, finished-none}
+use Rattle.replies.specs.declared.Refusal.{Refusal}
+use Rattle.replies.specs.declared.Answer.{Answer}
+use Rattle.replies.specs.declared.Answer.the-variants.{Refused}
+use Rattle.replies.specs.declared.Gate.the-variants.{Shut}
+use Rattle.replies.specs.Replying.{said, Replies}
+use Rattle.replies.specs.Asking.{ledgerGate, operandsGate}
+use Rattle.replies.specs.Ending.{Ending}
+use Rattle.replies.proofs.GateLaws.{TwoOperands, two-shut}
+use Rattle.replies.proofs.ReplyLaws.{replied, finished-none}
 
 module _ (d : ℕ) (s : Sort) (t : Tree s) (z : Sort) (u : Tree z) where
   numbered-few : every fewNodes (item number d ∷ item (formula s) t ∷ item (formula z) u ∷ []) ≡ (leb (nodes s t) maxNodes && leb (nodes z u) maxNodes)

@@ -1,5 +1,5 @@
 -- forall, shift and substitute: calls with an index and one result.
-use mathlib.Core.Path.{_≡_, refl, sym, ap, ap₂, _∙_}
+use mathlib.Core.Path.{_≡_, refl, ap, ap₂, _∙_}
 use mathlib.Core.Bool.{Bool, true, false, _&&_}
 use mathlib.Core.Option.{none, some}
 use mathlib.Core.List.{List, [], _∷_}
@@ -10,31 +10,32 @@ use lib.ListN.{length}
 use borrow.Author.Tests.{ltb-true, ltb-false, le-leb, lt-leb}
 use Rattle.formula.specs.declared.Sort.{Sort}
 use Rattle.formula.specs.declared.Sort.the-variants.{Faces, Intervals}
-use Rattle.formula.specs.declared.Op.{Op as Asked}
-use Rattle.formula.specs.declared.Op.the-variants.{DShift, DSubst}
+use Rattle.operations.specs.declared.Op.{Op as Asked}
+use Rattle.operations.specs.declared.Op.the-variants.{DShift, DSubst}
 use Rattle.formula.specs.Formula.{Face}
 use Rattle.formula.specs.Operations
-use Rattle.formula.specs.Operations.{shift, subst}
+use Rattle.formula.specs.Operations.{shift, subst, transform}
 use Rattle.formula.specs.Bytes.{Tree, readAll, nodes, bound, maxNodes, maxBound}
-use Rattle.formula.specs.Answers.{limited, ofOne, ofTwo, foralled, transform, transformed, Answered}
-use Rattle.formula.specs.declared.Outcome.{Outcome}
+use Rattle.operations.specs.Results.{limited, ofOne, ofTwo, foralled, transformed, Answered}
+use Rattle.operations.specs.declared.Outcome.{Outcome}
 use Rattle.calculus.specs.Parse.{readLedger}
 use Rattle.calculus.specs.Record.{index, formula, fewNodes, lowBound}
 use Rattle.calculus.specs.Calls.{foralls, emitForall}
 use Rattle.calculus.specs.Door
-use Rattle.calculus.specs.Door.{Call, Item, item, Task, transformTask, taskOf, outputsOf, every}
+use Rattle.calculus.specs.Door.{Item, item, Task, transformTask, taskOf, outputsOf, every}
 use Rattle.calculus.proofs.Doors.{ItemsKeep}
 use Rattle.ledger.specs.Ledger.{Led}
 use Rattle.steps.specs.Trees.{treeOf, Known}
 use Rattle.steps.proofs.TreeLaws.{read-known}
 use Rattle.transforms.specs.Transforms.{opOf, KnownOp}
 use Rattle.transforms.proofs.ImageLaws.{operand-known}
-use Rattle.engine.specs.declared.Refusal.{Refusal}
-use Rattle.engine.specs.declared.Made.the-variants.{Refused}
-use Rattle.engine.specs.declared.door.Gate.the-variants.{Shut}
-use Rattle.engine.specs.Replying.{saidOne, Replies}
-use Rattle.engine.specs.Asking.{transformCall, ledgerGate, operandGate, operandsGate}
-use Rattle.engine.proofs.GateLaws.{OneOperand, one-shut, TwoOperands, two-shut}
+use Rattle.replies.specs.declared.Refusal.{Refusal}
+use Rattle.replies.specs.declared.Made.the-variants.{Refused}
+use Rattle.replies.specs.declared.Gate.the-variants.{Shut}
+use Rattle.replies.specs.Replying.{saidOne, Replies}
+use Rattle.engine.specs.Calls.{transformCall}
+use Rattle.replies.specs.Asking.{ledgerGate, operandGate, operandsGate}
+use Rattle.replies.proofs.GateLaws.{OneOperand, one-shut, TwoOperands, two-shut}
 use Rattle.engine.proofs.ResultLaws.{Computed, computed, OneResult}
 
 -- An index is low where it is below 255.

@@ -1,9 +1,6 @@
-pub mod GateLaws
-pub mod ReplyLaws
 pub mod ResultLaws
 pub mod BoundLaws
 pub mod IndexLaws
 pub mod SideLaws
 pub mod ImplicationLaws
 pub mod Demand
-pub mod Saying

@@ -3,22 +3,22 @@ use mathlib.Core.Path.{_≡_, refl, sym, ap, ap₂, _∙_, subst}
 use mathlib.Core.Bool.{Bool, true, false, _&&_, and-true}
 use mathlib.Core.Option.{some}
 use mathlib.Core.List.{List, [], _∷_, _++_}
-use Prim.Native.Nat.{ℕ, _≤_, _<_, min}
+use Prim.Native.Nat.{ℕ, _≤_, _<_}
 use native.Mathlib.Omega.{arith}
 use lib.Dec.{leb}
 use lib.ListN.{length, take, drop}
 use lib.Seq.{length-take-le}
 use borrow.Author.Tests.{le-leb, lt-leb}
 use Rattle.formula.specs.declared.Sort.{Sort}
-use Rattle.formula.specs.declared.Sort.the-variants.{Faces, Intervals}
 use Rattle.formula.specs.declared.Size.{Size}
-use Rattle.formula.specs.declared.Outcome.{Outcome}
-use Rattle.formula.specs.declared.Outcome.the-variants.{Ill, Over, Short, Done}
+use Rattle.operations.specs.declared.Outcome.{Outcome}
+use Rattle.operations.specs.declared.Outcome.the-variants.{Ill, Over, Short, Done}
 use Rattle.formula.specs.Bytes.{Tree, encode, nodes, bound, maxNodes, maxBound}
-use Rattle.formula.specs.Answers.{sizeOf, Kept, over, keeps, limited, outcome, Answered}
-use Rattle.formula.proofs.AnswerLaws.{keeps-limits}
+use Rattle.formula.specs.Answers.{sizeOf, keeps}
+use Rattle.operations.specs.Results.{Kept, over, limited, outcome, Answered}
+use Rattle.operations.proofs.AnswerLaws.{keeps-limits}
 use Rattle.calculus.specs.Record.{formula, size, fewNodes, lowBound}
-use Rattle.calculus.specs.Door.{Call, Item, item, Task, taskOf, outputsOf, answered, Reply, every, longEnough, reply}
+use Rattle.calculus.specs.Door.{Call, Item, item, Task, taskOf, outputsOf, answered, every, longEnough}
 use Rattle.calculus.proofs.Doors.{ItemsKeep}
 use Rattle.ledger.specs.Ledger.{stepsOf, Led}
 use Rattle.steps.specs.declared.Ran.{Ran}
@@ -26,14 +26,15 @@ use Rattle.steps.specs.Running.{Runs}
 use Rattle.steps.specs.Trees.{Is}
 use Rattle.steps.proofs.TreeLaws.{is-short}
 use Rattle.transforms.proofs.ImageLaws.{limited-is, outcome-kept, in-front}
-use Rattle.engine.specs.declared.Refusal.the-variants.{LargeResult, ShortOutput}
-use Rattle.engine.specs.declared.Answer.{Answer}
-use Rattle.engine.specs.declared.Answer.the-variants.{Step, Refused}
-use Rattle.engine.specs.declared.Made.{Made}
-use Rattle.engine.specs.declared.Made.the-variants.{Refused as refusedMade}
-use Rattle.engine.specs.Replying.{measureOf, saidOne, Replies}
-use Rattle.engine.specs.Ending.{Ending, madeBy, outBy, Result}
-use Rattle.engine.proofs.ReplyLaws.{finished, too-large, too-short, replied}
+use Rattle.replies.specs.declared.Refusal.the-variants.{LargeResult, ShortOutput}
+use Rattle.replies.specs.declared.Answer.{Answer}
+use Rattle.replies.specs.declared.Answer.the-variants.{Step, Refused}
+use Rattle.replies.specs.declared.Made.{Made}
+use Rattle.replies.specs.declared.Made.the-variants.{Refused as refusedMade}
+use Rattle.replies.specs.Replying.{measureOf, saidOne, Replies}
+use Rattle.replies.specs.Ending.{Ending, madeBy, outBy}
+use Rattle.engine.specs.Calls.{Result}
+use Rattle.replies.proofs.ReplyLaws.{finished, too-large, too-short, replied}
 
 -- What was computed: the result, or that it is over the limits.
 pub data Computed (s : Sort) (t : Tree s) (d : List ℕ) (r : Outcome) : Type 0 where

@@ -14,10 +14,11 @@ use Rattle.formula.specs.declared.Size.{Size}
 use Rattle.formula.specs.Formula.{End, lo, hi, Interval}
 use Rattle.formula.specs.Operations
 use Rattle.formula.specs.Bytes.{encode, readAll, nodes, bound, maxNodes, maxBound}
-use Rattle.formula.specs.declared.Outcome.{Outcome}
-use Rattle.formula.specs.declared.Outcome.the-variants.{Done}
-use Rattle.formula.specs.Answers.{sizeOf, boundaried, AnsweredBoth}
-use Rattle.formula.proofs.ResultLaws.{boundary-sizes}
+use Rattle.operations.specs.declared.Outcome.{Outcome}
+use Rattle.operations.specs.declared.Outcome.the-variants.{Done}
+use Rattle.formula.specs.Answers.{sizeOf}
+use Rattle.operations.specs.Results.{boundaried, AnsweredBoth}
+use Rattle.operations.proofs.ResultLaws.{boundary-sizes}
 use Rattle.calculus.specs.Parse.{readLedger}
 use Rattle.calculus.specs.Record.{formula, size}
 use Rattle.calculus.specs.Calls.{bounds, emitBoundary}
@@ -32,18 +33,18 @@ use Rattle.steps.proofs.TreeLaws.{read-known}
 use Rattle.steps.specs.Programs.{Sides}
 use Rattle.steps.proofs.BoundaryLaws.{side-is}
 use Rattle.transforms.proofs.ImageLaws.{zero-front, one-front}
-use Rattle.engine.specs.declared.Refusal.{Refusal}
-use Rattle.engine.specs.declared.Refusal.the-variants.{ShortOutput}
-use Rattle.engine.specs.declared.Answer.{Answer}
-use Rattle.engine.specs.declared.Answer.the-variants.{Step, Refused}
-use Rattle.engine.specs.declared.Made.{Made}
-use Rattle.engine.specs.declared.Made.the-variants.{Refused as refusedMade}
-use Rattle.engine.specs.declared.door.Gate.the-variants.{Shut}
-use Rattle.engine.specs.Replying.{measureOf, saidBoth, Replies}
-use Rattle.engine.specs.Asking.{ledgerGate, operandGate}
-use Rattle.engine.specs.Ending.{Ending, madeBy, outBy, BothResults}
-use Rattle.engine.proofs.GateLaws.{OneOperand, one-shut}
-use Rattle.engine.proofs.ReplyLaws.{finished, too-short, replied}
+use Rattle.replies.specs.declared.Refusal.{Refusal}
+use Rattle.replies.specs.declared.Refusal.the-variants.{ShortOutput}
+use Rattle.replies.specs.declared.Answer.{Answer}
+use Rattle.replies.specs.declared.Answer.the-variants.{Step, Refused}
+use Rattle.replies.specs.declared.Made.{Made}
+use Rattle.replies.specs.declared.Made.the-variants.{Refused as refusedMade}
+use Rattle.replies.specs.declared.Gate.the-variants.{Shut}
+use Rattle.replies.specs.Replying.{measureOf, saidBoth, Replies}
+use Rattle.replies.specs.Asking.{ledgerGate, operandGate}
+use Rattle.replies.specs.Ending.{Ending, madeBy, outBy}
+use Rattle.replies.proofs.GateLaws.{OneOperand, one-shut}
+use Rattle.replies.proofs.ReplyLaws.{finished, too-short, replied}
 
 sidesTask : Interval → Task
 sidesTask r = record {

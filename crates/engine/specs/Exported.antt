@@ -18,9 +18,9 @@ use Rattle.calculus.specs.Desk.{Judged, deskAnswer}
 use Rattle.desk.specs.Verdicts.{Answers}
 use Rattle.desk.specs.declared.Verdict.{Verdict}
 use Rattle.desk.specs.declared.Verdict.the-variants.{Passes}
-use Rattle.engine.specs.declared.Answer.{Answer}
-use Rattle.engine.specs.declared.Made.{Made}
-use Rattle.engine.specs.Replying.{said, saidOne, saidBoth, Replies}
+use Rattle.replies.specs.declared.Answer.{Answer}
+use Rattle.replies.specs.declared.Made.{Made}
+use Rattle.replies.specs.Replying.{said, saidOne, saidBoth, Replies}
 
 -- A call of a public function on a ledger, with any arguments: its answer and the ledger after it are as its contract says.
 pub data Exported (l : List ℕ) : Call → List ℕ → Type 0 where

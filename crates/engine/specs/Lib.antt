@@ -1,4 +1,2 @@
-pub mod Replying
-pub mod Asking
-pub mod Ending
+pub mod Calls
 pub mod Exported

@@ -1,21 +1,18 @@
 // boundary.
-use crate::Made;
-use crate::Refusal;
-use crate::door;
-use crate::door::Gate;
-use crate::ending;
-use formula::Outcome;
 use formula::Size;
 use formula::Sort;
-ghost use mathlib.Core.Path.{_≡_};
+use operations::Outcome;
+use replies::Gate;
+use replies::Made;
+use replies::Refusal;
 ghost use mathlib.Core.List.{[], _∷_};
 ghost use Prim.Native.Nat.{_≤_};
 ghost use lib.ListN.{length};
 ghost use Rattle.calculus.specs.Door.{boundary as boundaryCall};
 ghost use Rattle.ledger.specs.Ledger.{Led};
 ghost use Rattle.steps.specs.Trees.{Known};
-ghost use Rattle.engine.specs.Replying.{saidBoth, Replies};
-ghost use Rattle.engine.specs.Ending.{BothResults};
+ghost use Rattle.replies.specs.Replying.{saidBoth, Replies};
+ghost use Rattle.engine.specs.Calls.{BothResults};
 
 // The call once its results are known to fit.
 fn run(
@@ -32,10 +29,10 @@ fn run(
 {
     let end = ledger::used(l);
     let x = steps::boundary(l, r, zero, one);
-    let a = ending::ending(l, end, x);
-    ending::deliver(a, zero, out0);
-    ending::deliver(a, one, out1);
-    ending::made(a, z)
+    let a = replies::ending(l, end, x);
+    replies::deliver(a, zero, out0);
+    replies::deliver(a, one, out1);
+    replies::with_size(a, z)
 }
 
 // The call once questions 1 to 4 are answered. The faces of an interval within the limits are within them.
@@ -45,7 +42,7 @@ fn computed(l: &mut [u8], r: &[u8], out0: &mut [u8], out1: &mut [u8]) -> Made
 {
     let mut zero = [0u8; 1024];
     let mut one = [0u8; 1024];
-    match formula::boundary(r, &mut zero, &mut one) {
+    match operations::boundary(r, &mut zero, &mut one) {
         Outcome::Done(z) => {
             let n = z.len;
             if out0.len() < n {
@@ -66,7 +63,7 @@ fn computed(l: &mut [u8], r: &[u8], out0: &mut [u8], out1: &mut [u8]) -> Made
 pub fn boundary(l: &mut [u8], r: &[u8], out0: &mut [u8], out1: &mut [u8]) -> Made
     ensures { λ x. ⌜ Replies (boundaryCall (now (r .entry)) (now (out0 .entry)) (now (out1 .entry))) (now (l .entry)) (saidBoth x) (now (l .exit)) (now (out0 .exit) ∷ now (out1 .exit) ∷ []) ⌝ }
 {
-    match door::one(l, Sort::Intervals, r, true) {
+    match replies::one(l, Sort::Intervals, r, true) {
         Gate::Open => computed(l, r, out0, out1),
         Gate::Shut(e) => Made::Refused(e),
     }

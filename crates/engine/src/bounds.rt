@@ -1,17 +1,14 @@
 // face and interval, once over the sort.
-use crate::Answer;
-use crate::door;
-use crate::door::Gate;
-use crate::ending;
 use formula::Sort;
-ghost use mathlib.Core.Path.{_≡_};
+use replies::Answer;
+use replies::Gate;
 ghost use mathlib.Core.List.{[]};
 ghost use Prim.Native.Nat.{_≤_};
 ghost use Rattle.calculus.specs.Door.{face as faceCall, interval as intervalCall};
 ghost use Rattle.ledger.specs.Ledger.{Led};
 ghost use Rattle.steps.specs.Trees.{Known};
-ghost use Rattle.engine.specs.Replying.{said, Replies};
-ghost use Rattle.engine.specs.Asking.{boundedCall};
+ghost use Rattle.replies.specs.Replying.{said, Replies};
+ghost use Rattle.engine.specs.Calls.{boundedCall};
 
 // The call once questions 1 to 4 are answered.
 fn run(l: &mut [u8], sort: Sort, d: usize, f: &[u8]) -> Answer
@@ -20,13 +17,13 @@ fn run(l: &mut [u8], sort: Sort, d: usize, f: &[u8]) -> Answer
 {
     let end = ledger::used(l);
     let r = steps::bounded(l, sort, d, f);
-    ending::ending(l, end, r)
+    replies::ending(l, end, r)
 }
 
 fn bounded(l: &mut [u8], sort: Sort, d: usize, f: &[u8]) -> Answer
     ensures { λ r. ⌜ Replies (boundedCall sort d (now (f .entry))) (now (l .entry)) (said r) (now (l .exit)) [] ⌝ }
 {
-    match door::one(l, sort, f, d <= 255) {
+    match replies::one(l, sort, f, d <= 255) {
         Gate::Open => run(l, sort, d, f),
         Gate::Shut(e) => Answer::Refused(e),
     }

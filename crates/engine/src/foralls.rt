@@ -1,13 +1,10 @@
 // forall.
-use crate::Made;
-use crate::Refusal;
-use crate::door;
-use crate::door::Gate;
-use crate::ending;
-use formula::Outcome;
 use formula::Size;
 use formula::Sort;
-ghost use mathlib.Core.Path.{_≡_};
+use operations::Outcome;
+use replies::Gate;
+use replies::Made;
+use replies::Refusal;
 ghost use mathlib.Core.List.{[], _∷_};
 ghost use Prim.Native.Nat.{_≤_, _<_};
 ghost use lib.ListN.{length};
@@ -15,8 +12,8 @@ ghost use Rattle.formula.specs.Operations.{forall as forallOf};
 ghost use Rattle.calculus.specs.Door.{forall as forallCall};
 ghost use Rattle.ledger.specs.Ledger.{Led};
 ghost use Rattle.steps.specs.Trees.{treeOf, Known};
-ghost use Rattle.engine.specs.Replying.{saidOne, Replies};
-ghost use Rattle.engine.specs.Ending.{Result};
+ghost use Rattle.replies.specs.Replying.{saidOne, Replies};
+ghost use Rattle.engine.specs.Calls.{Result};
 
 // The call once its result is known to fit.
 fn run(l: &mut [u8], f: &[u8], k: usize, result: &[u8], z: Size, out: &mut [u8]) -> Made
@@ -25,9 +22,9 @@ fn run(l: &mut [u8], f: &[u8], k: usize, result: &[u8], z: Size, out: &mut [u8])
 {
     let end = ledger::used(l);
     let r = steps::forall(l, f, k, result);
-    let a = ending::ending(l, end, r);
-    ending::deliver(a, result, out);
-    ending::made(a, z)
+    let a = replies::ending(l, end, r);
+    replies::deliver(a, result, out);
+    replies::with_size(a, z)
 }
 
 // The call once questions 1 to 4 are answered.
@@ -36,7 +33,7 @@ fn computed(l: &mut [u8], f: &[u8], k: usize, out: &mut [u8]) -> Made
     ensures { λ r. ⌜ Replies (forallCall (now (f .entry)) k (now (out .entry))) (now (l .entry)) (saidOne r) (now (l .exit)) (now (out .exit) ∷ []) ⌝ }
 {
     let mut result = [0u8; 1024];
-    match formula::forall(f, k, &mut result) {
+    match operations::forall(f, k, &mut result) {
         Outcome::Done(z) => {
             let n = z.len;
             if out.len() < n {
@@ -54,7 +51,7 @@ fn computed(l: &mut [u8], f: &[u8], k: usize, out: &mut [u8]) -> Made
 pub fn forall(l: &mut [u8], f: &[u8], k: usize, out: &mut [u8]) -> Made
     ensures { λ r. ⌜ Replies (forallCall (now (f .entry)) k (now (out .entry))) (now (l .entry)) (saidOne r) (now (l .exit)) (now (out .exit) ∷ []) ⌝ }
 {
-    match door::one(l, Sort::Faces, f, k < 255) {
+    match replies::one(l, Sort::Faces, f, k < 255) {
         Gate::Open => computed(l, f, k, out),
         Gate::Shut(e) => Made::Refused(e),
     }

@@ -1,14 +1,11 @@
 // shift and substitute, once over the operation.
-use crate::Made;
-use crate::Refusal;
-use crate::door;
-use crate::door::Gate;
-use crate::ending;
-use formula::Op;
-use formula::Outcome;
 use formula::Size;
 use formula::Sort;
-ghost use mathlib.Core.Path.{_≡_};
+use operations::Op;
+use operations::Outcome;
+use replies::Gate;
+use replies::Made;
+use replies::Refusal;
 ghost use mathlib.Core.List.{[], _∷_};
 ghost use Prim.Native.Nat.{_≤_};
 ghost use lib.ListN.{length};
@@ -17,9 +14,8 @@ ghost use Rattle.calculus.specs.Door.{shift as shiftCall, substitute as substit
 ghost use Rattle.ledger.specs.Ledger.{Led};
 ghost use Rattle.steps.specs.Trees.{treeOf, Known};
 ghost use Rattle.transforms.specs.Transforms.{opOf, KnownOp};
-ghost use Rattle.engine.specs.Replying.{saidOne, Replies};
-ghost use Rattle.engine.specs.Asking.{transformCall};
-ghost use Rattle.engine.specs.Ending.{Result};
+ghost use Rattle.replies.specs.Replying.{saidOne, Replies};
+ghost use Rattle.engine.specs.Calls.{transformCall, Result};
 
 // The call once its result is known to fit.
 fn run(
@@ -37,9 +33,9 @@ fn run(
 {
     let end = ledger::used(l);
     let x = transforms::transform(l, sort, op, t, r, result);
-    let a = ending::ending(l, end, x);
-    ending::deliver(a, result, out);
-    ending::made(a, z)
+    let a = replies::ending(l, end, x);
+    replies::deliver(a, result, out);
+    replies::with_size(a, z)
 }
 
 // The call once questions 1 to 4 are answered. A shift does not read r.
@@ -48,7 +44,7 @@ fn computed(l: &mut [u8], sort: Sort, op: Op, t: &[u8], r: &[u8], out: &mut [u8]
     ensures { λ x. ⌜ Replies (transformCall sort op (now (t .entry)) (now (r .entry)) (now (out .entry))) (now (l .entry)) (saidOne x) (now (l .exit)) (now (out .exit) ∷ []) ⌝ }
 {
     let mut result = [0u8; 1024];
-    match formula::transform(sort, op, t, r, &mut result) {
+    match operations::transform(sort, op, t, r, &mut result) {
         Outcome::Done(z) => {
             let n = z.len;
             if out.len() < n {
@@ -66,7 +62,7 @@ fn computed(l: &mut [u8], sort: Sort, op: Op, t: &[u8], r: &[u8], out: &mut [u8]
 pub fn shift(l: &mut [u8], sort: Sort, t: &[u8], k: usize, out: &mut [u8]) -> Made
     ensures { λ x. ⌜ Replies (shiftCall sort (now (t .entry)) k (now (out .entry))) (now (l .entry)) (saidOne x) (now (l .exit)) (now (out .exit) ∷ []) ⌝ }
 {
-    match door::one(l, sort, t, k < 255) {
+    match replies::one(l, sort, t, k < 255) {
         Gate::Open => computed(l, sort, Op::DShift(k), t, t, out),
         Gate::Shut(e) => Made::Refused(e),
     }
@@ -76,7 +72,7 @@ pub fn shift(l: &mut [u8], sort: Sort, t: &[u8], k: usize, out: &mut [u8]) -> Ma
 pub fn substitute(l: &mut [u8], sort: Sort, t: &[u8], k: usize, r: &[u8], out: &mut [u8]) -> Made
     ensures { λ x. ⌜ Replies (substituteCall sort (now (t .entry)) k (now (r .entry)) (now (out .entry))) (now (l .entry)) (saidOne x) (now (l .exit)) (now (out .exit) ∷ []) ⌝ }
 {
-    match door::two(l, sort, t, Sort::Intervals, r, k < 255) {
+    match replies::two(l, sort, t, Sort::Intervals, r, k < 255) {
         Gate::Open => computed(l, sort, Op::DSubst(k), t, r, out),
         Gate::Shut(e) => Made::Refused(e),
     }

@@ -11,7 +11,7 @@ use Rattle.formula.specs.declared.Sort.{Sort}
 use Rattle.formula.specs.declared.Sort.the-variants.{Faces, Intervals}
 use Rattle.formula.specs.declared.Size.{Size}
 use Rattle.formula.specs.Bytes.{Tree, encode, nodes, maxNodes, readAll}
-use Rattle.formula.proofs.ResultLaws.{len-short}
+use Rattle.operations.proofs.ResultLaws.{len-short}
 use Rattle.calculus.specs.Judgement.{Step}
 use Rattle.calculus.specs.Rules.{AllBelow, pass, fail}
 use Rattle.calculus.specs.Record.{maxLedger, Holds}
@@ -29,12 +29,12 @@ use Rattle.ledger.proofs.LedgerLaws.{many, place-next, place-end}
 use Rattle.desk.specs.Verdicts.{answerAs}
 use Rattle.desk.specs.declared.Verdict.{Verdict}
 use Rattle.desk.proofs.Verdicts.{fails-lowest}
-use Rattle.engine.specs.declared.Refusal.{Refusal as Refused}
-use Rattle.engine.specs.declared.Answer.{Answer}
-use Rattle.engine.specs.declared.Answer.the-variants.{Refused as refusedBy}
-use Rattle.engine.specs.declared.Made.{Made}
-use Rattle.engine.specs.declared.Made.the-variants.{Step as MadeStep, Refused as refusedMade}
-use Rattle.engine.specs.Replying.{refusalOf, said, saidOne, saidBoth, Replies}
+use Rattle.replies.specs.declared.Refusal.{Refusal as Refused}
+use Rattle.replies.specs.declared.Answer.{Answer}
+use Rattle.replies.specs.declared.Answer.the-variants.{Refused as refusedBy}
+use Rattle.replies.specs.declared.Made.{Made}
+use Rattle.replies.specs.declared.Made.the-variants.{Step as MadeStep, Refused as refusedMade}
+use Rattle.replies.specs.Replying.{refusalOf, said, saidOne, saidBoth, Replies}
 use Rattle.exports.specs.Answers.{deskNumber, replyNumber, Numbers, isOne}
 use Rattle.exports.specs.Packing.{Packs, Low, verdictNumber}
 

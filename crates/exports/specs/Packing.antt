@@ -2,8 +2,8 @@
 use mathlib.Core.Path.{_≡_}
 use Prim.Native.Nat.{ℕ, _+_, _*_, _<_}
 use Rattle.formula.specs.declared.Size.{Size}
-use Rattle.engine.specs.declared.Made.{Made}
-use Rattle.engine.specs.declared.Made.the-variants.{Step}
+use Rattle.replies.specs.declared.Made.{Made}
+use Rattle.replies.specs.declared.Made.the-variants.{Step}
 use Rattle.desk.specs.declared.Verdict.{Verdict}
 use Rattle.desk.specs.declared.Verdict.the-variants.{Ill, Fails, Passes}
 use Rattle.exports.specs.Answers.{refused}

@@ -1,11 +1,11 @@
 // Answers as one number.
 use desk::Verdict;
-use engine::Answer;
-use engine::Made;
-use engine::Refusal;
+use replies::Answer;
+use replies::Made;
+use replies::Refusal;
 ghost use mathlib.Core.Path.{_≡_};
 ghost use Rattle.calculus.specs.Door.{refused as refusedBy};
-ghost use Rattle.engine.specs.Replying.{refusalOf, said, saidOne, saidBoth};
+ghost use Rattle.replies.specs.Replying.{refusalOf, said, saidOne, saidBoth};
 ghost use Rattle.exports.specs.Answers.{replyNumber, isOne};
 ghost use Rattle.exports.specs.Packing.{Packs, Low, verdictNumber};
 
@@ -13,7 +13,7 @@ ghost use Rattle.exports.specs.Packing.{Packs, Low, verdictNumber};
 fn refused(e: Refusal) -> u64
     ensures { λ r. ⌜ r ≡ replyNumber (refusedBy (refusalOf e)) ⌝ }
 {
-    let q = engine::number(e);
+    let q = replies::number(e);
     18446744073709551615 - (q as u64 - 1)
 }
 

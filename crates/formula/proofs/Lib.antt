@@ -1,12 +1,7 @@
-pub mod AnswerLaws
 pub mod ByteLaws
 pub mod Compare
 pub mod Meaning
 pub mod Nodes
 pub mod Reading
-pub mod PassLaws
-pub mod ResultLaws
-pub mod SideLaws
 pub mod StepLaws
-pub mod TokenLaws
 pub mod WalkLaws

@@ -3,12 +3,12 @@
 use Prim.Native.Nat.{ℕ, zero, suc, _+_, _≤_, _<_}
 use native.Mathlib.Omega.{arith}
 use mathlib.Core.Path.{_≡_, refl, sym, ap, _∙_}
-use mathlib.Core.Option.{Option, none, some, Option·none-ne-some, Option·some-injective}
+use mathlib.Core.Option.{some, Option·none-ne-some, Option·some-injective}
 use mathlib.Core.List.{List, [], _∷_, _++_, append-assoc, append-nil}
 use lib.ListN.{length, length-append}
-use Rattle.formula.specs.Bytes.{Tree, dimBytes, encode, Node, leaf, lit, one, two, bad, nodeOf, Got, nothing, got, then, takeDim, front, readIn, read, wholly, readAll}
+use Rattle.formula.specs.Bytes.{Tree, dimBytes, encode, Node, leaf, lit, one, two, bad, nodeOf, Got, nothing, got, then, front, readIn, read, wholly, readAll}
 use Rattle.formula.specs.declared.Sort.{Sort}
-use Rattle.formula.proofs.Nodes.{Made, Makes, made, made-as, Steps, tree-ind}
+use Rattle.formula.proofs.Nodes.{Makes, made, made-as, tree-ind}
 
 pub got-value : {A : Type 0} {a b : A} {l m : List ℕ} → got a l ≡ got b m → a ≡ b
 got-value e = cc

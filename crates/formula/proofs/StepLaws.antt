@@ -1,21 +1,20 @@
 -- The kinds of the code, and its steps, by the nodes of the definitions.
 use Prim.Native.Nat.{ℕ, zero, suc, _+_, _-_, _≤_, _<_}
 use native.Mathlib.Omega.{arith}
-use mathlib.Core.Path.{_≡_, refl, sym, ap, _∙_, subst}
+use mathlib.Core.Path.{_≡_, refl, sym, ap, _∙_}
 use mathlib.Core.Bool.{Bool, true, false}
 use mathlib.Core.List.{List, [], _∷_}
-use lib.Dec.{ltb, leb}
+use lib.Dec.{ltb}
 use lib.ListN.{length, getD}
 use borrow.Author.Tests.{le-ltb, ltb-false, le-leb, lt-leb}
-use Rattle.formula.specs.Bytes.{Tree, Node, leaf, lit, one, two, bad, from16, intervalNode, nodeOf}
-use Rattle.formula.specs.Answers.{pick, stepBy, stepOf, literalStep}
-use Rattle.formula.specs.Walks.{kindBy, kindOf}
+use Rattle.formula.specs.Bytes.{Node, leaf, lit, one, two, bad, from16, intervalNode, nodeOf}
+use Rattle.formula.specs.Answers.{pick, stepBy, stepOf, literalStep, kindBy, kindOf}
 use Rattle.formula.specs.declared.Sort.{Sort}
 use Rattle.formula.specs.declared.Sort.the-variants.{Faces, Intervals}
 use Rattle.formula.specs.declared.Step.{Step}
-use Rattle.formula.specs.declared.Step.the-variants.{Leaf, Lit, One, Two, Stuck}
-use Rattle.formula.specs.declared.node.Kind.{Kind}
-use Rattle.formula.specs.declared.node.Kind.the-variants.{Nullary, Literal, Unary, Binary, Unknown}
+use Rattle.formula.specs.declared.Step.the-variants.{Leaf, One, Two, Stuck}
+use Rattle.formula.specs.declared.Kind.{Kind}
+use Rattle.formula.specs.declared.Kind.the-variants.{Nullary, Literal, Unary, Binary, Unknown}
 
 -- the kinds of a run of bytes: up to each limit, one kind
 abbrev pub byLimits : List (ℕ × Kind) → ℕ → Kind

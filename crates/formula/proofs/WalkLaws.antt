@@ -5,27 +5,25 @@ use native.Mathlib.Numerals.{add-one}
 use native.Mathlib.Decide.{decLe}
 use mathlib.Core.Path.{_≡_, refl, sym, ap, ap₂, _∙_, subst}
 use mathlib.Core.Bool.{Bool, true, false, _&&_}
-use mathlib.Core.Option.{Option, none, some}
-use mathlib.Core.List.{List, [], _∷_, _++_, append-assoc, append-nil}
+use mathlib.Core.List.{List, [], _∷_, _++_}
 use lib.Dec.{leb, eqb}
 use lib.ListN.{length, getD, take, drop, length-append, length-drop, drop-of-length-le}
 use lib.Seq.{drop-cons, take-at}
-use borrow.Author.Tests.{le-leb, lt-leb, leb-true, leb-false, eq-eqb, ne-eqb}
+use borrow.Author.Tests.{le-leb, leb-true, leb-false, eq-eqb, ne-eqb}
 use Rattle.formula.specs.Bytes.{Tree, dimWidth, dimAt, encode, Node, leaf, lit, one, two, bad, nodeOf, Got, nothing, got, then, takeDim, front, read, wholly, readAll, nodes, bound}
-use Rattle.formula.specs.Answers.{pick, literalStep, stepBy, stepOf, sizeOf, measuredAs, measured, frontSize, measuredAt, bytesOf, partAt}
+use Rattle.formula.specs.Answers.{pick, stepBy, stepOf, measuredAs, measured, frontSize, measuredAt, bytesOf, partAt}
 use Rattle.formula.specs.Walks.{counted, turnOf, readRow, overTree, passed, finish, walkedAt}
 use Rattle.formula.specs.declared.Sort.{Sort}
 use Rattle.formula.specs.declared.Size.{Size}
 use Rattle.formula.specs.declared.Measured.{Measured}
 use Rattle.formula.specs.declared.Measured.the-variants.{Formula, Ill}
-use Rattle.formula.specs.declared.Place.{Place}
 use Rattle.formula.specs.declared.Step.{Step}
 use Rattle.formula.specs.declared.Step.the-variants.{Leaf, Lit, One, Two, Stuck}
 use Rattle.formula.specs.declared.walk.Walk.{Walk}
 use Rattle.formula.specs.declared.walk.Turn.{Turn}
 use Rattle.formula.specs.declared.walk.Turn.the-variants.{On, Broken}
-use Rattle.formula.proofs.Nodes.{Made, Makes, made}
-use Rattle.formula.proofs.Reading.{nothing-got, got-value, got-rest, encode-pos, read-nil, read-cons, encode-read}
+use Rattle.formula.proofs.Nodes.{Makes, made}
+use Rattle.formula.proofs.Reading.{nothing-got, encode-pos, read-cons, encode-read}
 use Rattle.formula.proofs.StepLaws.{step-few}
 
 walk-eq : {a b p q n m x y : ℕ} → a ≡ b → p ≡ q → n ≡ m → x ≡ y → _≡_ {A = Walk} (record { at = a; pending = p; nodes = n; bound = x }) (record { at = b; pending = q; nodes = m; bound = y })

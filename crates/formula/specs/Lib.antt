@@ -3,4 +3,3 @@ pub mod Operations
 pub mod Bytes
 pub mod Answers
 pub mod Walks
-pub mod Passes

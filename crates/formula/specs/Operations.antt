@@ -1,6 +1,9 @@
 -- The operations on formulas, after the Rust: `boundary`, `forall`, and `itransform` and `ftransform` by an operation.
 use Prim.Native.Nat.{ℕ, pred, compare}
 use Rattle.formula.specs.Formula.{End, lo, hi, Face, ff, ft, at, fand, for, Interval, i0, i1, dim, neg, meet, join, Assignment, value, beside, insert, raised, remove}
+use Rattle.formula.specs.Bytes.{Tree}
+use Rattle.formula.specs.declared.Sort.{Sort}
+use Rattle.formula.specs.declared.Sort.the-variants.{Faces, Intervals}
 
 -- The face where an interval expression is an end: `boundary lo r` is (r=0), `boundary hi r` is (r=1).
 unfoldable pub boundary : End → Interval → Face
@@ -49,6 +52,11 @@ ftransform o ft = ft
 ftransform o (at e n) = boundary e (dimTo o n)
 ftransform o (fand a b) = fand (ftransform o a) (ftransform o b)
 ftransform o (for a b) = for (ftransform o a) (ftransform o b)
+
+-- The transformation of a formula of either sort.
+abbrev pub transform : (s : Sort) → Op → Tree s → Tree s
+transform Faces o f = ftransform o f
+transform Intervals o r = itransform o r
 
 -- What an operation does to an assignment: shift removes its place, substitution inserts the value of its replacement.
 abbrev pub change : Op → Assignment → Assignment

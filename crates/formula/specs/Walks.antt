@@ -1,37 +1,16 @@
 -- Definitions that only the contracts of private functions cite; no public contract rests on them.
 -- Here: the walk over a formula that has still to be told from other bytes.
 use Prim.Native.Nat.{ℕ, zero, suc, _+_, _-_, max}
-use mathlib.Core.Bool.{Bool, true, false}
 use mathlib.Core.List.{List, [], _∷_}
 use lib.ListN.{length, drop}
-use Rattle.formula.specs.Bytes.{Tree, encode, Node, leaf, lit, one, two, bad, nodeOf, Got, nothing, got, then, read, nodes, bound}
+use Rattle.formula.specs.Bytes.{Tree, encode, Got, nothing, got, then, read, nodes, bound}
 use Rattle.formula.specs.Answers.{stepOf}
 use Rattle.formula.specs.declared.Sort.{Sort}
 use Rattle.formula.specs.declared.Step.{Step}
 use Rattle.formula.specs.declared.Step.the-variants.{Leaf, Lit, One, Two, Stuck}
-use Rattle.formula.specs.declared.node.Kind.{Kind}
-use Rattle.formula.specs.declared.node.Kind.the-variants.{Nullary, Literal, Unary, Binary, Unknown}
 use Rattle.formula.specs.declared.walk.Walk.{Walk}
 use Rattle.formula.specs.declared.walk.Turn.{Turn}
 use Rattle.formula.specs.declared.walk.Turn.the-variants.{On, Broken}
-
--- the kind of a node
-abbrev pub kindBy : {A : Type 0} → Node A → Kind
-kindBy (leaf t) = Nullary
-kindBy (lit g) = Literal
-kindBy (one u) = Unary
-kindBy (two v) = Binary
-kindBy bad = Unknown
-
-unfoldable pub kindOf : Sort → ℕ → Kind
-kindOf s b = kindBy (nodeOf s b)
-
-abbrev pub literalKind : Kind → Bool
-literalKind Nullary = false
-literalKind Literal = true
-literalKind Unary = false
-literalKind Binary = false
-literalKind Unknown = false
 
 -- a step counted
 abbrev pub counted : Walk → Step → Turn

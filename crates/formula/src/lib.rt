@@ -1,28 +1,22 @@
-// Prefix-byte formulas of both sorts: places, measuring, parts of a slice, and the operations on bytes.
+// Prefix-byte formulas of both sorts: nodes, places, measuring, and parts of a slice.
 mod bytes;
 mod node;
-mod results;
-mod rewrite;
-mod sides;
 mod walk;
-mod weigh;
 
 pub use bytes::copy;
 pub use bytes::put;
 pub use bytes::same;
+pub use node::DIM;
 pub use node::dim_at;
 pub use node::dim_width;
+pub use node::is_literal;
+pub use node::kind_of;
 pub use node::put_dim;
-pub use results::boundary;
-pub use results::boundary_size;
-pub use results::forall;
-pub use results::forall_size;
-pub use results::transform;
-pub use results::transform_size;
 pub use walk::formula_at;
+pub use walk::larger;
 pub use walk::measure;
 pub use walk::measure_at;
-pub use weigh::within;
+pub use walk::within;
 ghost use mathlib.Core.Path.{_≡_};
 ghost use Rattle.formula.specs.Answers.{stepOf};
 
@@ -30,6 +24,15 @@ ghost use Rattle.formula.specs.Answers.{stepOf};
 pub enum Sort {
     Faces,
     Intervals,
+}
+
+// What a kind byte begins: a leaf, a literal, a node over one formula or over two; or nothing.
+pub enum Kind {
+    Nullary,
+    Literal,
+    Unary,
+    Binary,
+    Unknown,
 }
 
 // The length in bytes, the node count and the bound of a formula.
@@ -43,27 +46,6 @@ pub struct Size {
 pub enum Measured {
     Formula(Size),
     Ill,
-}
-
-// The operations on dimensions, with their cutoff: shift, and substitution of the interval that stands beside it.
-pub enum Op {
-    DShift(usize),
-    DSubst(usize),
-}
-
-// The size of a result: of operands that are formulas within the limits, and within the limits itself.
-pub enum Sized {
-    Ill,
-    Over,
-    Fits(Size),
-}
-
-// What became of a result: no formulas, over the limits, larger than the lent slice, or written there.
-pub enum Outcome {
-    Ill,
-    Over,
-    Short(Size),
-    Done(Size),
 }
 
 // A place in a row of prefix formulas: `pending` of them are still to come from byte `at` on.
@@ -106,17 +88,17 @@ impl Place {
         }
         let next = at + 1;
         match node::kind_of(sort, s[at]) {
-            node::Kind::Nullary => Step::Leaf(Place {
+            Kind::Nullary => Step::Leaf(Place {
                 at: next,
                 pending: pending - 1,
             }),
-            node::Kind::Literal => node::literal_step(s, next, pending - 1),
-            node::Kind::Unary => Step::One(Place { at: next, pending }),
-            node::Kind::Binary => Step::Two(Place {
+            Kind::Literal => node::literal_step(s, next, pending - 1),
+            Kind::Unary => Step::One(Place { at: next, pending }),
+            Kind::Binary => Step::Two(Place {
                 at: next,
                 pending: pending + 1,
             }),
-            node::Kind::Unknown => Step::Stuck,
+            Kind::Unknown => Step::Stuck,
         }
     }
 }

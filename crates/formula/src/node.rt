@@ -1,4 +1,5 @@
 // Single nodes: what a kind byte is, and the field of a dimension.
+use crate::Kind;
 use crate::Place;
 use crate::Sort;
 use crate::Step;
@@ -7,21 +8,13 @@ ghost use Prim.Native.Nat.{_+_, _≤_, _<_};
 ghost use lib.ListN.{length};
 ghost use lib.Seq.{sets};
 ghost use Rattle.formula.specs.Bytes.{dimWidth, dimAt, dimBytes};
-ghost use Rattle.formula.specs.Answers.{dimSpace, literalStep};
-ghost use Rattle.formula.specs.Walks.{kindOf, literalKind};
+ghost use Rattle.formula.specs.Answers.{dimSpace, literalStep, kindOf, literalKind};
 
 // The width of a dimension's field in bytes.
-pub(crate) const DIM: usize = 1;
+pub const DIM: usize = 1;
 
-pub(crate) enum Kind {
-    Nullary,
-    Literal,
-    Unary,
-    Binary,
-    Unknown,
-}
-
-pub(crate) fn kind_of(sort: Sort, b: u8) -> Kind
+// The kind of node that the byte begins.
+pub fn kind_of(sort: Sort, b: u8) -> Kind
     ensures { λ r. ⌜ r ≡ kindOf sort b ⌝ }
 {
     match sort {
@@ -67,7 +60,7 @@ fn interval_kind(b: u8) -> Kind
 }
 
 // Whether the kind byte begins a literal.
-pub(crate) fn is_literal(sort: Sort, b: u8) -> bool
+pub fn is_literal(sort: Sort, b: u8) -> bool
     ensures { λ r. ⌜ r ≡ literalKind (kindOf sort b) ⌝ }
 {
     match kind_of(sort, b) {

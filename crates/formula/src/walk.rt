@@ -7,7 +7,7 @@ use crate::Step;
 ghost use mathlib.Core.Path.{_≡_};
 ghost use Prim.Native.Nat.{_≤_, max};
 ghost use lib.ListN.{length};
-ghost use Rattle.formula.specs.Answers.{measured, measuredAt, partAt};
+ghost use Rattle.formula.specs.Answers.{keeps, measured, measuredAt, partAt};
 ghost use Rattle.formula.specs.Walks.{turnOf, walkedAt};
 
 // How far a walk has come, and what it has counted.
@@ -24,7 +24,7 @@ enum Turn {
 }
 
 // The larger of two numbers.
-pub(crate) fn larger(a: usize, b: usize) -> usize
+pub fn larger(a: usize, b: usize) -> usize
     ensures { λ r. ⌜ r ≡ max a b ⌝ }
 {
     if a < b {
@@ -142,4 +142,14 @@ pub fn formula_at(sort: Sort, s: &[u8], at: usize) -> &[u8]
         }
         Turn::Broken => &s[..0],
     }
+}
+
+// Whether a size keeps the limits: 511 nodes, and dimensions to 254.
+pub fn within(z: Size) -> bool
+    ensures { λ r. ⌜ r ≡ keeps z ⌝ }
+{
+    if 511 < z.nodes {
+        return false;
+    }
+    z.bound <= 255
 }

@@ -3,23 +3,25 @@ use Prim.Native.Nat.{ℕ, zero, suc, _+_, _-_, _*_, _≤_, _<_}
 use native.Mathlib.Omega.{arith}
 use native.Mathlib.Nat.{add-zero, zero-add}
 use mathlib.Core.Path.{_≡_, refl, sym, ap, ap₂, _∙_, subst}
-use mathlib.Core.Option.{Option, none, some}
 use mathlib.Core.List.{List, [], _∷_, _++_, append-assoc, append-nil}
-use lib.ListN.{length, getD, take, drop, replicate, length-append, length-replicate, take-append-drop}
+use lib.ListN.{length, getD, take, drop, replicate, length-append, take-append-drop}
 use lib.Seq.{drop-cons, drop-drop, drop-at, drop-append-add, drop-append-seam, take-at, take-all, take-suc}
 use Rattle.calculus.specs.Judgement.{Step}
 use Rattle.calculus.specs.Table.{predicate, entryOf}
 use Rattle.calculus.specs.Rules.{stepAt, judgementAt, AllBelow}
-use Rattle.calculus.specs.Record.{littleEndian, operandBytes, referencesBytes, bodyBytes, recordBytes, stepsBytes, size, ledgerBytes, FormedStep, FormedFrom, maxLedger, Holds}
+use Rattle.calculus.specs.Record.{littleEndian, operandBytes, referencesBytes, bodyBytes, recordBytes, stepsBytes, size, ledgerBytes, FormedStep, FormedFrom, Holds}
 use Rattle.calculus.proofs.Tables.{listed-range}
-use Rattle.calculus.proofs.Fields.{capacity}
 use Rattle.calculus.proofs.Records.{record-length, steps-append, read-ledger}
-use Rattle.records.specs.Kinds.{numberOf, entryAs}
+use Rattle.kinds.specs.Kinds.{numberOf, entryAs}
 use Rattle.records.specs.Places.{littleAt}
-use Rattle.records.specs.declared.Entry.the-variants.{Listed}
+use Rattle.kinds.specs.declared.Entry.the-variants.{Listed}
 use Rattle.records.proofs.NumberLaws.{little-drop, little-front}
-use Rattle.ledger.proofs.GrowLaws.{references-length}
-use Rattle.ledger.specs.Ledger.{stepsIn, stepsOf, Led, placeOf, Points}
+use Rattle.ledger.specs.Ledger.{stepsIn, stepsOf, Led, placeOf}
+
+pub references-length : (is : List ℕ) → length (referencesBytes is) ≡ 4 * length is
+unfolding referencesBytes
+references-length [] = refl
+references-length (i ∷ is) = omega (arith, references-length is)
 
 -- A ledger that holds steps is read as them.
 pub holds-steps : {l : List ℕ} {L : List Step} → Holds l L → stepsOf l ≡ L

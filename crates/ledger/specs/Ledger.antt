@@ -1,24 +1,12 @@
--- The steps of a ledger's bytes, and what the functions on them answer and leave.
+-- The steps of a ledger's bytes, and their places.
 use mathlib.Core.Path.{_≡_}
-use mathlib.Core.Bool.{Bool, true, false, _&&_}
-use mathlib.Core.Option.{Option, none, some, Option·map}
-use mathlib.Core.List.{List, [], _∷_, _++_}
-use Prim.Native.Nat.{ℕ, zero, suc, _+_, _≤_, _<_}
-use lib.Dec.{eqb, leb}
+use mathlib.Core.Option.{Option, none, some}
+use mathlib.Core.List.{List, []}
+use Prim.Native.Nat.{ℕ, _+_, _<_}
 use lib.ListN.{length, take}
-use Rattle.formula.specs.Answers.{sameBytes}
-use Rattle.calculus.specs.Judgement.{Judgement, Step}
-use Rattle.calculus.specs.Table.{predicate}
-use Rattle.calculus.specs.Rules.{stepAt}
-use Rattle.calculus.specs.Record.{littleEndian, operandBytes, referencesBytes, stepsBytes, size, ledgerBytes, FormedStep, Holds}
+use Rattle.calculus.specs.Judgement.{Step}
+use Rattle.calculus.specs.Record.{stepsBytes, Holds}
 use Rattle.calculus.specs.Parse.{readLedger}
-use Rattle.calculus.specs.Emit.{Outcome, done, stopped, full, emit, within, run}
-use Rattle.records.specs.Kinds.{numberOf}
-use Rattle.ledger.specs.declared.Found.{Found}
-use Rattle.ledger.specs.declared.Found.the-variants.{At, Absent}
-use Rattle.ledger.specs.declared.Emitted.{Emitted}
-use Rattle.ledger.specs.declared.Emitted.the-variants.{Full}
-use Rattle.ledger.specs.declared.Emitted.the-variants.{Step as Number}
 
 -- The steps that were read, if any.
 abbrev pub stepsIn : Option (List Step) → List Step
@@ -42,71 +30,3 @@ pub record Points (l : List ℕ) (step at : ℕ) : Type 0 where
   pub led : Led l
   pub inside : step < length (stepsOf l)
   pub place : at ≡ placeOf (stepsOf l) step
-
--- Has the step this predicate and these operands?
-abbrev pub sameStep : ℕ → List ℕ → Step → Bool
-sameStep p operands s = eqb (numberOf (predicate (s .judgement))) p && sameBytes (operandBytes (s .judgement)) operands
-
--- For a private contract: a test that fails only for steps without these operands.
-abbrev pub RulesOut : List ℕ → ℕ → List ℕ → Bool → Type 0
-RulesOut l i operands r = r ≡ false → (p : ℕ) → sameStep p operands (stepAt (stepsOf l) i) ≡ false
-
--- Number 0 where the first step is the one, else one more than the number among the others.
-abbrev pub first : Bool → Option ℕ → Option ℕ
-first true o = some 0
-first false o = Option·map (λ n. suc n) o
-
--- The number of the lowest step with this predicate and these operands.
-unfoldable pub findBytes : ℕ → List ℕ → List Step → Option ℕ
-findBytes p operands [] = none
-findBytes p operands (s ∷ L) = first (sameStep p operands s) (findBytes p operands L)
-
--- A step as it is answered.
-abbrev pub foundAs : Option ℕ → ℕ → Found
-foundAs none n = Absent n
-foundAs (some i) n = At i
-
--- The bytes stand for the step.
-pub record Stands (s : Step) (kind : ℕ) (references operands : List ℕ) : Type 0 where
-  pub kinds : s .kind ≡ kind
-  pub refers : s .references ≡ references
-  pub judges : operandBytes (s .judgement) ≡ operands
-
--- For a private contract: the record of a kind with these references and operands.
-unfoldable pub rawRecord : ℕ → List ℕ → List ℕ → List ℕ
-rawRecord kind references operands =
-    let body = littleEndian 2 kind ++ (referencesBytes references ++ operands) in
-    littleEndian 4 (length body) ++ body
-
--- One step more where there is room, else all bytes as they were.
-abbrev pub Appends : List ℕ → Step → Bool → List ℕ → Type 0
-Appends l s true l′ = (size (stepsOf l ++ s ∷ []) ≤ length l) × (l′ ≡ ledgerBytes (length l) (stepsOf l ++ s ∷ []))
-Appends l s false l′ = (length l < size (stepsOf l ++ s ∷ [])) × (l′ ≡ l)
-
--- The same for every step that the bytes stand for.
-abbrev pub Appended : List ℕ → ℕ → List ℕ → List ℕ → Bool → List ℕ → Type 0
-Appended l kind references operands r l′ = (s : Step) → Stands s kind references operands → Appends l s r l′
-
--- Back to the first steps.
-abbrev pub Undone : List ℕ → ℕ → List ℕ → Type 0
-Undone l end l′ = (L T : List Step) → stepsOf l ≡ L ++ T → end ≡ size L → l′ ≡ ledgerBytes (length l) L
-
--- An answer and what it leaves are those of an outcome, in a ledger that was l.
-abbrev pub Ran : List ℕ → Outcome → Emitted → List ℕ → Type 0
-Ran l (done n L) (Number m) l′ = (m ≡ n) × (length l′ ≡ length l) × Holds l′ L
-Ran l (done n L) Full l′ = ⊥
-Ran l (stopped e L) r l′ = ⊥
-Ran l full (Number m) l′ = ⊥
-Ran l full Full l′ = l′ ≡ l
-
--- The emit rule for every step that the bytes stand for.
-abbrev pub Emission : List ℕ → ℕ → List ℕ → List ℕ → Emitted → List ℕ → Type 0
-Emission l kind references operands r l′ =
-    (s : Step) → FormedStep (length (stepsOf l)) s → Stands s kind (take (length (s .references)) references) operands
-    → Ran l (run (within (length l)) (emit (s .kind) (s .references) (s .judgement)) (stepsOf l)) r l′
-
--- For a private contract: the same where the predicate's number is known.
-abbrev pub EmissionAs : List ℕ → ℕ → List ℕ → ℕ → List ℕ → Emitted → List ℕ → Type 0
-EmissionAs l kind references p operands r l′ =
-    (s : Step) → FormedStep (length (stepsOf l)) s → Stands s kind references operands → numberOf (predicate (s .judgement)) ≡ p
-    → Ran l (run (within (length l)) (emit (s .kind) (s .references) (s .judgement)) (stepsOf l)) r l′

@@ -1,25 +1,18 @@
-// A ledger's bytes: a length, records, zeros. Reading steps, the lowest equal step, the emit rule, and going back.
+// A ledger's bytes, read: a length, records, zeros.
 mod check;
-mod emit;
-mod grow;
-mod lowest;
 mod steps;
 
 pub use check::operands;
 pub use check::well_formed;
-pub use emit::emit_step;
-pub use grow::append;
-pub use grow::undo;
-pub use grow::used;
-pub use lowest::find;
 pub use steps::seek;
+pub use steps::used;
 ghost use mathlib.Core.Path.{_≡_};
 ghost use Prim.Native.Nat.{_+_, _*_, _<_, suc};
 ghost use lib.ListN.{length, getD};
 ghost use Rattle.calculus.specs.Table.{predicate};
 ghost use Rattle.calculus.specs.Rules.{stepAt, judgementAt};
 ghost use Rattle.calculus.specs.Record.{operandBytes};
-ghost use Rattle.records.specs.Kinds.{numberOf};
+ghost use Rattle.kinds.specs.Kinds.{numberOf};
 ghost use Rattle.ledger.specs.Ledger.{stepsOf, placeOf, Points};
 
 // What bytes are found to be: a ledger with so many steps, or none (refusal 1).
@@ -32,18 +25,6 @@ pub enum Checked {
 pub struct Cursor {
     pub step: usize,
     pub at: usize,
-}
-
-// The lowest equal step, or how many steps there are.
-pub enum Found {
-    At(usize),
-    Absent(usize),
-}
-
-// The number of the step, or that the ledger has no room for it.
-pub enum Emitted {
-    Step(usize),
-    Full,
 }
 
 impl Cursor {
@@ -90,9 +71,9 @@ impl Cursor {
         requires { ⌜ Points (now l) (self .step) (self .at) ⌝ }
         ensures { λ r. ⌜ r ≡ numberOf (predicate (judgementAt (stepsOf (now (l .entry))) (self .step))) ⌝ }
     {
-        match records::entry_of(self.kind(l)) {
-            records::Entry::Listed(_, p) => p,
-            records::Entry::Unlisted => 0,
+        match kinds::entry_of(self.kind(l)) {
+            kinds::Entry::Listed(_, p) => p,
+            kinds::Entry::Unlisted => 0,
         }
     }
 
@@ -102,9 +83,9 @@ impl Cursor {
         ensures { λ r. ⌜ r ≡ self .at + 6 + 4 * length ((stepAt (stepsOf (now (l .entry))) (self .step)) .references) ⌝ }
     {
         let at = self.at;
-        match records::entry_of(self.kind(l)) {
-            records::Entry::Listed(n, _) => at + 6 + 4 * n,
-            records::Entry::Unlisted => at,
+        match kinds::entry_of(self.kind(l)) {
+            kinds::Entry::Listed(n, _) => at + 6 + 4 * n,
+            kinds::Entry::Unlisted => at,
         }
     }
 

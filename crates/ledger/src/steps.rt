@@ -3,6 +3,7 @@ use crate::Cursor;
 ghost use mathlib.Core.Path.{_≡_};
 ghost use Prim.Native.Nat.{_<_};
 ghost use lib.ListN.{length};
+ghost use Rattle.calculus.specs.Record.{size};
 ghost use Rattle.ledger.specs.Ledger.{stepsOf, placeOf, Led};
 
 // Step i.
@@ -19,4 +20,12 @@ pub fn seek(l: &[u8], i: usize) -> Cursor
         at = n.at;
     }
     Cursor { step, at }
+}
+
+// Where the records end.
+pub fn used(l: &[u8]) -> usize
+    requires { ⌜ Led (now l) ⌝ }
+    ensures { λ r. ⌜ r ≡ size (stepsOf (now (l .entry))) ⌝ }
+{
+    4 + records::get4(l, 0)
 }

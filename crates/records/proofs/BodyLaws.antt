@@ -9,41 +9,19 @@ use lib.Dec.{eqb}
 use lib.ListN.{length, drop}
 use Rattle.formula.specs.Bytes.{Got, nothing, got, then}
 use Rattle.calculus.specs.Judgement.{Step}
-use Rattle.calculus.specs.Table.{Pred, pLt, pLe, pInterval, pFace, pMember, pTake, pCover, pEntails, pBoundary, pLocal, pFforall, pIshift, pIsubst, pFshift, pFsubst, Entry, entry, unlisted, entryOf}
+use Rattle.calculus.specs.Table.{Pred, Entry, entry, unlisted, entryOf}
 use Rattle.calculus.specs.Record.{fields, Values}
 use Rattle.calculus.specs.Parse.{readReferences, readValues, judgementOf, readAs, readBody}
 use Rattle.calculus.proofs.Fields.{fails, reads}
-use Rattle.records.specs.declared.Entry.{Entry as Answer}
-use Rattle.records.specs.declared.Entry.the-variants.{Listed, Unlisted}
+use Rattle.kinds.specs.declared.Entry.{Entry as Answer}
+use Rattle.kinds.specs.declared.Entry.the-variants.{Listed, Unlisted}
 use Rattle.records.specs.declared.fields.End.{End as Place}
 use Rattle.records.specs.declared.fields.End.the-variants.{To, Ill}
-use Rattle.records.specs.Kinds.{numberOf, predicateOf, entryAs}
+use Rattle.kinds.specs.Kinds.{predicateOf, entryAs}
+use Rattle.kinds.proofs.KindLaws.{numbered}
 use Rattle.records.specs.Places.{littleAt, ended, valuesEnd}
 use Rattle.records.specs.Bodies.{readable, listedFits}
 use Rattle.records.proofs.PlaceLaws.{little-at, little-short, tail-drop, Leaves, leaves-in, values-leaves, references-leaves}
-
--- The numbers of the predicates.
-pub numbered : (p : Pred) → (predicateOf (numberOf p) ≡ p) × (numberOf p < 15)
-numbered pLt = (refl, omega arith)
-numbered pLe = (refl, omega arith)
-numbered pInterval = (refl, omega arith)
-numbered pFace = (refl, omega arith)
-numbered pMember = (refl, omega arith)
-numbered pTake = (refl, omega arith)
-numbered pCover = (refl, omega arith)
-numbered pEntails = (refl, omega arith)
-numbered pBoundary = (refl, omega arith)
-numbered pLocal = (refl, omega arith)
-numbered pFforall = (refl, omega arith)
-numbered pIshift = (refl, omega arith)
-numbered pIsubst = (refl, omega arith)
-numbered pFshift = (refl, omega arith)
-numbered pFsubst = (refl, omega arith)
-
--- An answer of the table has the number of a predicate.
-pub listed-below : (x : Entry) {n p : ℕ} → entryAs x ≡ Listed n p → p < 15
-listed-below (entry name k q) {p} e = let z : numberOf q ≡ p = cc in omega (arith, numbered q .1)
-listed-below unlisted e = let z : _≡_ {A = ℕ} 0 1 = cc in absurd (omega arith)
 
 -- Does the reading end at n?
 abbrev pub endsAt : ℕ → Place → Bool

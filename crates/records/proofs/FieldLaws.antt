@@ -23,11 +23,11 @@ use Rattle.calculus.specs.Search.{nodesContext}
 use Rattle.calculus.specs.Record.{Field, number, index, context, end, formula, Value, boundContext, allowed, fields, Values}
 use Rattle.calculus.specs.Parse.{only, takeLittle, readFaces, readValues, readReferences}
 use Rattle.calculus.proofs.Fields.{fails, reads}
-use Rattle.records.specs.declared.table.Field.{Field as Answered}
-use Rattle.records.specs.declared.table.Field.the-variants.{Number, Index, Context, End, Face as OneFace, Interval as OneInterval, Nothing}
+use Rattle.kinds.specs.declared.Field.{Field as Answered}
+use Rattle.kinds.specs.declared.Field.the-variants.{Number, Index, Context, End, Face as OneFace, Interval as OneInterval, Nothing}
 use Rattle.records.specs.declared.fields.End.{End as Place}
 use Rattle.records.specs.declared.fields.End.the-variants.{To, Ill}
-use Rattle.records.specs.Kinds.{fieldAs, fieldAt, predicateOf}
+use Rattle.kinds.specs.Kinds.{fieldAs, fieldAt, predicateOf}
 use Rattle.records.specs.Places.{littleAt, ended, readAllowed, endOf, fieldEnd, numberEnd, facesEnd}
 use Rattle.records.proofs.PlaceLaws.{little-at, little-short, tail-drop, Leaves, leaves-in, field-leaves, ended-drop, ended-fits, ended-map, by-size}
 

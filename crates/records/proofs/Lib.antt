@@ -2,5 +2,3 @@ pub mod NumberLaws
 pub mod PlaceLaws
 pub mod FieldLaws
 pub mod BodyLaws
-pub mod TableLaws
-pub mod KindLaws

@@ -7,7 +7,7 @@ use lib.ListN.{drop}
 use Rattle.formula.specs.Bytes.{Got, then, wholly}
 use Rattle.calculus.specs.Record.{fields}
 use Rattle.calculus.specs.Parse.{readReferences, readValues}
-use Rattle.records.specs.Kinds.{predicateOf}
+use Rattle.kinds.specs.Kinds.{predicateOf}
 
 -- Is there something?
 abbrev pub isSome : {A : Type 0} → Option A → Bool

@@ -8,11 +8,11 @@ use Rattle.formula.specs.Bytes.{Got, nothing, got, then, takeDim}
 use Rattle.calculus.specs.Record.{Value, allowed, fields}
 use Rattle.calculus.specs.Record
 use Rattle.calculus.specs.Parse.{only, readField, readFaces, readValues}
-use Rattle.records.specs.declared.table.Field.{Field}
-use Rattle.records.specs.declared.table.Field.the-variants.{Number, Index, Context, End, Face, Interval, Nothing}
+use Rattle.kinds.specs.declared.Field.{Field}
+use Rattle.kinds.specs.declared.Field.the-variants.{Number, Index, Context, End, Face, Interval, Nothing}
 use Rattle.records.specs.declared.fields.End.{End as Place}
 use Rattle.records.specs.declared.fields.End.the-variants.{To, Ill}
-use Rattle.records.specs.Kinds.{predicateOf}
+use Rattle.kinds.specs.Kinds.{predicateOf}
 
 -- The number of so many bytes at a place, the lowest first.
 abbrev pub littleAt : ℕ → List ℕ → ℕ → ℕ

@@ -1,9 +1,8 @@
 // Whether bytes are the body of a record.
-use crate::Entry;
 use crate::fields;
 use crate::fields::End;
 use crate::numbers;
-use crate::table;
+use kinds::Entry;
 ghost use mathlib.Core.Path.{_≡_};
 ghost use Prim.Native.Nat.{_≤_, _<_};
 ghost use lib.ListN.{length};
@@ -31,7 +30,7 @@ pub fn body_fits(s: &[u8], i: usize) -> bool
     if s.len() < 2 {
         return false;
     }
-    match table::entry_of(numbers::get2(s, 0)) {
+    match kinds::entry_of(numbers::get2(s, 0)) {
         Entry::Listed(n, p) => listed_fits(s, i, n, p),
         Entry::Unlisted => false,
     }

@@ -1,12 +1,11 @@
 // Where a field ends that a ledger may hold: numbers, formulas and contexts within the limits.
 use crate::numbers;
-use crate::table;
-use crate::table::Field;
 use formula::Measured;
 use formula::Size;
 use formula::Sort;
+use kinds::Field;
 ghost use mathlib.Core.Path.{_≡_};
-ghost use Prim.Native.Nat.{_+_, _≤_, _<_};
+ghost use Prim.Native.Nat.{_≤_, _<_};
 ghost use lib.ListN.{length, drop};
 ghost use Rattle.calculus.specs.Record.{context, end, formula};
 ghost use Rattle.calculus.specs.Parse.{readReferences};
@@ -136,7 +135,7 @@ pub(crate) fn values_end(s: &[u8], at: usize, predicate: usize) -> End
     let mut e = at;
     let mut j: usize = 0;
     while j < 4 {
-        let End::To(next) = field_end(table::field_of(predicate, j), s, e) else {
+        let End::To(next) = field_end(kinds::field_of(predicate, j), s, e) else {
             return End::Ill;
         };
         e = next;

@@ -1,6 +1,4 @@
-// The words of standard input; zeros where it ends.
-use libc::STDIN_FILENO;
-ghost use Prim.Native.Nat.{_<_};
+// What standard input says of a call.
 
 // A sum of bytes: each half is below 65,521.
 pub struct Sums {
@@ -22,70 +20,31 @@ pub struct Heading {
     pub answer: usize,
 }
 
-fn wide(b: u8) -> usize
-    ensures { λ r. ⌜ r < 256 ⌝ }
-{
-    b as usize
-}
-
-fn four() -> [u8; 4] {
-    let mut b = [0u8; 4];
-    io::read_full(STDIN_FILENO, &mut b);
-    b
-}
-
-fn low(b: &[u8; 4]) -> usize
-    ensures { λ r. ⌜ r < 65536 ⌝ }
-{
-    wide(b[0]) + 256 * wide(b[1])
-}
-
-fn high(b: &[u8; 4]) -> usize
-    ensures { λ r. ⌜ r < 65536 ⌝ }
-{
-    wide(b[2]) + 256 * wide(b[3])
-}
-
-pub fn number() -> usize {
-    let b = four();
-    low(&b) + 65536 * high(&b)
-}
-
 pub fn sum() -> Sums {
-    let b = four();
+    let b = stdio::word();
     Sums {
-        a: low(&b),
-        b: high(&b),
+        a: stdio::low(&b),
+        b: stdio::high(&b),
     }
 }
 
 pub fn head() -> Heading {
-    let k = four();
-    let n = number();
-    let rooms = four();
-    let operands = four();
-    let answer = number();
-    let results = four();
+    let k = stdio::word();
+    let n = stdio::read_number();
+    let rooms = stdio::word();
+    let operands = stdio::word();
+    let answer = stdio::read_number();
+    let results = stdio::word();
     Heading {
         kind: k[0],
         one: k[1],
-        result: low(&results),
-        result2: high(&results),
+        result: stdio::low(&results),
+        result2: stdio::high(&results),
         number: n,
-        room: low(&rooms),
-        room2: high(&rooms),
-        operand: low(&operands),
-        operand2: high(&operands),
+        room: stdio::low(&rooms),
+        room2: stdio::high(&rooms),
+        operand: stdio::low(&operands),
+        operand2: stdio::high(&operands),
         answer: answer,
     }
-}
-
-// The next n bytes in the front of the space; all of the space where it is shorter.
-pub fn bytes(space: &mut [u8], n: usize) -> &[u8] {
-    if n <= space.len() {
-        let part: &mut [u8] = &mut space[..n];
-        io::read_full(STDIN_FILENO, part);
-        return part;
-    }
-    space
 }

@@ -1,21 +1,13 @@
 // What the engine answered and wrote, held against what is expected.
-use crate::input;
 use crate::input::Heading;
 use crate::input::Sums;
 use crate::lend::FILL;
-ghost use Prim.Native.Nat.{_<_};
 
 // An answer: the step's number or the refusal's, and the result's length.
 pub struct Said {
     pub yes: bool,
     pub number: usize,
     pub len: usize,
-}
-
-fn wide(b: u8) -> usize
-    ensures { λ r. ⌜ r < 256 ⌝ }
-{
-    b as usize
 }
 
 pub fn answered(h: Heading, s: Said) -> bool {
@@ -34,7 +26,7 @@ fn sum(s: &[u8], n: usize, from: Sums) -> Sums {
     let mut b = from.b % 65521;
     let mut i = 0;
     while i < s.len() && i < n {
-        a = (a + wide(s[i])) % 65521;
+        a = (a + stdio::wide(s[i])) % 65521;
         b = (b + a) % 65521;
         i += 1;
     }
@@ -69,15 +61,15 @@ fn begins(s: &[u8], want: &[u8]) -> bool {
 // Reads a result of n bytes: the output begins with it, and its other bytes stayed. An output that the call does not have is empty.
 pub fn written(n: usize, out: &[u8]) -> bool {
     let mut space = io::buffer();
-    let want: &[u8] = input::bytes(&mut space, n);
+    let want: &[u8] = stdio::read_bytes(&mut space, n);
     begins(out, want) && rest(out, n, FILL)
 }
 
 // Reads how many bytes of the ledger are given, and these: it begins with them.
 pub fn given(l: &[u8]) -> bool {
-    let n = input::number();
+    let n = stdio::read_number();
     let mut space = io::buffer();
-    let want: &[u8] = input::bytes(&mut space, n);
+    let want: &[u8] = stdio::read_bytes(&mut space, n);
     begins(l, want)
 }
 

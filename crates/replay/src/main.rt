@@ -7,18 +7,9 @@ mod tally;
 
 use crate::input::Heading;
 use crate::judge::Said;
-use engine::Answer;
-use engine::Made;
 use formula::Sort;
-ghost use mathlib.Core.Path.{_≡_};
-ghost use lib.ListN.{length};
-
-// One byte more than the longest ledger.
-fn room() -> [u8; 1048577]
-    ensures { λ r. ⌜ 1048577 ≡ length r ⌝ }
-{
-    [0; 1048577]
-}
+use replies::Answer;
+use replies::Made;
 
 fn step(a: Answer) -> Said {
     match a {
@@ -29,7 +20,7 @@ fn step(a: Answer) -> Said {
         },
         Answer::Refused(q) => Said {
             yes: false,
-            number: engine::number(q),
+            number: replies::number(q),
             len: 0,
         },
     }
@@ -44,7 +35,7 @@ fn result(m: Made) -> Said {
         },
         Made::Refused(q) => Said {
             yes: false,
-            number: engine::number(q),
+            number: replies::number(q),
             len: 0,
         },
     }
@@ -80,12 +71,12 @@ fn call(l: &mut [u8], t: &mut [usize; 23]) -> bool {
     let h = input::head();
     let mut first = io::buffer();
     let mut other = io::buffer();
-    let a: &[u8] = input::bytes(&mut first, h.operand);
-    let b: &[u8] = input::bytes(&mut other, h.operand2);
+    let a: &[u8] = stdio::read_bytes(&mut first, h.operand);
+    let b: &[u8] = stdio::read_bytes(&mut other, h.operand2);
     let mut out = lend::filled();
     let mut second = lend::filled();
-    let o: &mut [u8] = lend::part(&mut out, h.room);
-    let p: &mut [u8] = lend::part(&mut second, h.room2);
+    let o: &mut [u8] = stdio::part(&mut out, h.room);
+    let p: &mut [u8] = stdio::part(&mut second, h.room2);
     let said = ask(l, h, a, b, o, p);
     tally::call(t, h.kind as usize, said);
     let one = judge::written(h.result, o);
@@ -99,14 +90,14 @@ fn note(t: &mut [usize; 23], list: usize, call: usize, agreed: bool) {
         return;
     }
     tally::count(t, tally::DIFFERENCES);
-    print::text(b"list ");
-    print::number(list);
+    stdio::text(b"list ");
+    stdio::number(list);
     if call == 0 {
-        return print::text(b": the ledger differs\n");
+        return stdio::text(b": the ledger differs\n");
     }
-    print::text(b": call ");
-    print::number(call);
-    print::text(b" differs\n");
+    stdio::text(b": call ");
+    stdio::number(call);
+    stdio::text(b" differs\n");
 }
 
 // So many calls of a list.
@@ -121,10 +112,10 @@ fn calls(l: &mut [u8], list: usize, count: usize, t: &mut [usize; 23]) {
 
 // A list on a ledger of zeros as long as the slice.
 fn list(l: &mut [u8], n: usize, t: &mut [usize; 23]) {
-    lend::clear(l);
+    stdio::clear(l);
     tally::count(t, tally::LISTS);
-    let count = input::number();
-    let used = input::number();
+    let count = stdio::read_number();
+    let used = stdio::read_number();
     let sum = input::sum();
     calls(l, n, count, t);
     let whole = judge::given(l);
@@ -133,8 +124,8 @@ fn list(l: &mut [u8], n: usize, t: &mut [usize; 23]) {
 
 // The next list; false where none is left or its ledger has no room.
 fn next(space: &mut [u8], t: &mut [usize; 23]) -> bool {
-    let n = input::number();
-    let len = input::number();
+    let n = stdio::read_number();
+    let len = stdio::read_number();
     if n == 0 {
         return false;
     }
@@ -157,7 +148,7 @@ fn lists(space: &mut [u8], t: &mut [usize; 23]) {
 }
 
 fn main() {
-    let mut space = room();
+    let mut space = stdio::room();
     let mut t = tally::empty();
     lists(&mut space, &mut t);
     tally::report(&t);

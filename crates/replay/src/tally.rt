@@ -39,8 +39,8 @@ pub fn call(t: &mut [usize; 23], kind: usize, s: Said) {
 }
 
 fn cell(words: &[u8], n: usize) {
-    print::text(words);
-    print::number(n);
+    stdio::text(words);
+    stdio::number(n);
 }
 
 fn calls(t: &[usize; 23]) {
@@ -76,5 +76,5 @@ pub fn report(t: &[usize; 23]) {
     cell(b"\n", t[LISTS]);
     cell(b" lists, ", t[CALLS]);
     cell(b" calls, differences: ", t[DIFFERENCES]);
-    print::text(b"\n");
+    stdio::text(b"\n");
 }

@@ -1,12 +1,12 @@
 -- The search by its moves: more fuel than nodes changes nothing.
 use Prim.Native.Nat.{ℕ, zero, suc, _+_, _≤_}
 use native.Mathlib.Omega.{arith}
-use mathlib.Core.Path.{_≡_, refl, sym, ap, ap₂, _∙_}
+use mathlib.Core.Path.{_≡_, refl, ap, ap₂}
 use mathlib.Core.List.{List, [], _∷_, _++_}
 use Rattle.formula.specs.Formula.{Face, fand, for}
 use Rattle.formula.specs.Bytes.{nodesFace}
 use Rattle.calculus.specs.Judgement.{cover}
-use Rattle.calculus.specs.Search.{Move, by-and-left, by-or-left, by-and-right, by-or-right, move, nodesContext}
+use Rattle.calculus.specs.Search.{Move, move, nodesContext}
 use Rattle.calculus.specs.Emit.{Program, emit, _>>=_, attempt}
 use Rattle.calculus.specs.Calls.{emitTake, emitMove, emitCoverIn, emitCover}
 use Rattle.calculus.proofs.Searching.{Moves, is-top, is-hit, is-absurd, is-clash, is-and-left, is-or-left, is-and-right, is-or-right, is-stuck, move-view, left-out, nodes-left-out, nodes-positive}

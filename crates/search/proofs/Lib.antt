@@ -2,4 +2,3 @@ pub mod CoverLaws
 pub mod TurnLaws
 pub mod SplitLaws
 pub mod SearchLaws
-pub mod ImplicationLaws

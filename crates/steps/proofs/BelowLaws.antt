@@ -9,7 +9,7 @@ use Rattle.formula.specs.declared.Sort.{Sort}
 use Rattle.formula.specs.declared.Sort.the-variants.{Faces, Intervals}
 use Rattle.formula.specs.declared.Step.the-variants.{Lit}
 use Rattle.formula.specs.declared.Place.{Place}
-use Rattle.formula.specs.Formula.{Face, at, Interval, dim}
+use Rattle.formula.specs.Formula.{Face, Interval, dim}
 use Rattle.formula.specs.Bytes.{Tree, dimBytes, encodeInterval, nodesInterval, boundInterval, lit, nodeOf}
 use Rattle.formula.proofs.Nodes.{EachNode, made-as}
 use Rattle.calculus.specs.Judgement.{face, interval}

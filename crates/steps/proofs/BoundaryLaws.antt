@@ -13,7 +13,7 @@ use Rattle.formula.specs.Bytes.{encode, encodeFace, nodesFace, boundFace}
 use Rattle.formula.specs.Answers.{partAt}
 use Rattle.formula.proofs.Nodes.{EachNode}
 use Rattle.formula.proofs.Meaning.{boundary-neg}
-use Rattle.formula.proofs.ResultLaws.{boundary-smaller}
+use Rattle.operations.proofs.ResultLaws.{boundary-smaller}
 use Rattle.calculus.specs.Rules
 use Rattle.calculus.specs.Record.{operandBytes}
 use Rattle.calculus.specs.Rules.{Rule}

@@ -1,19 +1,18 @@
 -- Comparisons, step by step.
 use Prim.Native.Nat.{ℕ, zero, suc, _+_, _-_, _≤_, _<_}
 use native.Mathlib.Omega.{arith}
-use mathlib.Core.Path.{_≡_, refl, sym, ap, ap₂, _∙_, subst, subst₂}
+use mathlib.Core.Path.{_≡_, refl, sym, ap₂, subst, subst₂}
 use mathlib.Core.Bool.{Bool, true, false}
 use mathlib.Core.List.{List, [], _∷_, _++_}
-use lib.ListN.{length}
 use Rattle.formula.specs.Bytes.{dimBytes}
 use Rattle.calculus.specs.Rules
 use Rattle.calculus.specs.Rules.{Rule}
 use Rattle.calculus.specs.Record.{operandBytes}
 use Rattle.calculus.proofs.Growing.{Limited}
-use Rattle.calculus.specs.Emit.{not-below, Program, stop, emit, _>>=_}
+use Rattle.calculus.specs.Emit.{not-below, Program, emit, _>>=_}
 use Rattle.calculus.specs.Calls.{Order, less, atMost, compared, fromZero, comparedKind, emitComparison}
 use Rattle.calculus.proofs.Ends.{compared-s}
-use Rattle.ledger.specs.Ledger.{stepsOf, Led}
+use Rattle.ledger.specs.Ledger.{Led}
 use Rattle.steps.specs.declared.Ran.{Ran}
 use Rattle.steps.specs.declared.Ran.the-variants.{NotBelow}
 use Rattle.steps.specs.Running.{doneBy, stepBy, Runs, Emits, order}

@@ -1,7 +1,7 @@
 -- One run after another on a ledger's bytes.
-use Prim.Native.Nat.{ℕ, zero, suc, _+_, _≤_, _<_}
+use Prim.Native.Nat.{ℕ, _+_, _≤_, _<_}
 use native.Mathlib.Omega.{arith}
-use mathlib.Core.Path.{_≡_, refl, sym, ap, ap₂, _∙_, subst, subst₂}
+use mathlib.Core.Path.{_≡_, refl, sym, ap, _∙_, subst, subst₂}
 use mathlib.Core.Bool.{Bool, true, false}
 use mathlib.Core.Option.{Option, none, some}
 use mathlib.Core.List.{List, [], _∷_, _++_, append-assoc, append-nil}
@@ -9,20 +9,19 @@ use lib.ListN.{length, take, length-append}
 use Rattle.calculus.specs.Judgement.{Judgement, Step}
 use Rattle.calculus.specs.Table.{predicate, Listed}
 use Rattle.calculus.specs.Rules.{Rule, AllBelow}
-use Rattle.calculus.specs.Record.{operandBytes, FormedStep, Holds}
+use Rattle.calculus.specs.Record.{operandBytes, Holds}
 use Rattle.calculus.specs.Emit.{Failure, not-below, not-implied, Program, stop, emit, _>>=_, attempt, Outcome, done, stopped, full, next, instead, append, emitted, find, within, run}
 use Rattle.calculus.proofs.Tables.{rule-listed}
-use Rattle.calculus.proofs.Fields.{Allowed}
 use Rattle.calculus.proofs.Finding.{find-lowest}
-use Rattle.calculus.proofs.Growing.{Extends, Limited, limited-allowed}
+use Rattle.calculus.proofs.Growing.{Limited, limited-allowed}
 use Rattle.calculus.proofs.Repeating.{Longer, done-longer, stopped-longer, is-full, run-longer}
-use Rattle.ledger.specs.Ledger.{stepsOf, Led, Stands, Emission}
-use Rattle.ledger.specs.Ledger.{Ran as EmitRan}
-use Rattle.ledger.specs.declared.Emitted.{Emitted}
-use Rattle.ledger.specs.declared.Emitted.the-variants.{Step as Number, Full as NoRoom}
+use Rattle.ledger.specs.Ledger.{stepsOf, Led}
+use Rattle.emission.specs.Emitting.{Emission, Ran as EmitRan}
+use Rattle.emission.specs.declared.Emitted.{Emitted}
+use Rattle.emission.specs.declared.Emitted.the-variants.{Step as Number, Full as NoRoom}
 use Rattle.ledger.proofs.LedgerLaws.{holds-steps, holds-led}
 use Rattle.steps.specs.declared.Ran.{Ran}
-use Rattle.steps.specs.declared.Ran.the-variants.{Done, NotBelow, NotImplied, Full}
+use Rattle.steps.specs.declared.Ran.the-variants.{Done, Full}
 use Rattle.steps.specs.Running.{doneBy, stepBy, failedBy, Leaves, Grew, Ends, Runs, Emits}
 
 pub true-false : {A : Type 0} → true ≡ false → A

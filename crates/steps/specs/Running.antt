@@ -8,7 +8,8 @@ use Rattle.calculus.specs.Judgement.{Step}
 use Rattle.calculus.specs.Record.{FormedStep, Holds}
 use Rattle.calculus.specs.Emit.{Failure, not-below, not-implied, Program, emit, Outcome, done, stopped, full, within, run}
 use Rattle.calculus.specs.Calls.{Order, less, atMost}
-use Rattle.ledger.specs.Ledger.{stepsOf, Stands}
+use Rattle.ledger.specs.Ledger.{stepsOf}
+use Rattle.emission.specs.Emitting.{Stands}
 use Rattle.steps.specs.declared.Ran.{Ran}
 use Rattle.steps.specs.declared.Ran.the-variants.{Done, NotBelow, NotImplied, Full}
 

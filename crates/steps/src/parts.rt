@@ -1,6 +1,6 @@
 // The emit rule for operands that stand in several slices.
 use crate::Ran;
-use ledger::Emitted;
+use emission::Emitted;
 ghost use mathlib.Core.Path.{_≡_};
 ghost use mathlib.Core.List.{_++_};
 ghost use Prim.Native.Nat.{_+_, _≤_};
@@ -33,7 +33,7 @@ pub fn emit(
     formula::copy(c, &mut operands, j);
     formula::copy(d, &mut operands, k);
     formula::copy(e, &mut operands, m);
-    match ledger::emit_step(l, kind, references, &operands[..n]) {
+    match emission::emit_step(l, kind, references, &operands[..n]) {
         Emitted::Step(i) => Ran::Done(i),
         Emitted::Full => Ran::Full,
     }

@@ -9,16 +9,17 @@ use lib.Seq.{take-at}
 use borrow.Author.Tests.{le-leb}
 use Rattle.formula.specs.declared.Sort.{Sort}
 use Rattle.formula.specs.declared.Sort.the-variants.{Faces, Intervals}
-use Rattle.formula.specs.declared.Op.{Op as Asked}
-use Rattle.formula.specs.declared.Op.the-variants.{DShift, DSubst}
+use Rattle.operations.specs.declared.Op.{Op as Asked}
+use Rattle.operations.specs.declared.Op.the-variants.{DShift, DSubst}
 use Rattle.formula.specs.declared.Size.{Size}
-use Rattle.formula.specs.declared.Outcome.{Outcome}
-use Rattle.formula.specs.declared.Outcome.the-variants.{Ill, Over, Short, Done}
+use Rattle.operations.specs.declared.Outcome.{Outcome}
+use Rattle.operations.specs.declared.Outcome.the-variants.{Ill, Over, Short, Done}
 use Rattle.formula.specs.Formula.{End, lo, hi}
-use Rattle.formula.specs.Operations.{boundary, shift, subst}
+use Rattle.formula.specs.Operations.{boundary, shift, subst, transform}
 use Rattle.formula.specs.Bytes.{Tree, encode, nodes, bound, maxNodes, maxBound}
-use Rattle.formula.specs.Answers.{sizeOf, Kept, kept, limited, asOperand, operand, ofOne, ofTwo, boundaried, transform, transformed, outcome, written, Answered, AnsweredBoth}
-use Rattle.formula.proofs.ResultLaws.{boundary-sizes}
+use Rattle.formula.specs.Answers.{sizeOf}
+use Rattle.operations.specs.Results.{Kept, kept, limited, asOperand, operand, ofOne, ofTwo, boundaried, transformed, outcome, written, Answered, AnsweredBoth}
+use Rattle.operations.proofs.ResultLaws.{boundary-sizes}
 use Rattle.steps.specs.Trees.{Is, treeOf, Known}
 use Rattle.steps.specs.Programs.{Sides}
 use Rattle.transforms.specs.Transforms.{opOf, KnownOp}

@@ -8,11 +8,11 @@ use lib.ListN.{length, getD, drop}
 use borrow.Author.Tests.{lt-ltb, le-ltb}
 use Rattle.formula.specs.declared.Sort.{Sort}
 use Rattle.formula.specs.declared.Sort.the-variants.{Faces, Intervals}
-use Rattle.formula.specs.declared.Op.{Op as Asked}
-use Rattle.formula.specs.declared.Op.the-variants.{DShift, DSubst}
-use Rattle.formula.specs.Operations.{Op, shift, subst, dimTo, itransform, ftransform}
+use Rattle.operations.specs.declared.Op.{Op as Asked}
+use Rattle.operations.specs.declared.Op.the-variants.{DShift, DSubst}
+use Rattle.formula.specs.Operations.{Op, shift, subst, dimTo, itransform, ftransform, transform}
 use Rattle.formula.specs.Bytes.{dimBytes, nodeOf, encodeFace, encodeInterval, nodesFace, nodesInterval, boundFace, boundInterval}
-use Rattle.formula.specs.Answers.{transform, partAt}
+use Rattle.formula.specs.Answers.{partAt}
 use Rattle.formula.specs.declared.Step.the-variants.{Lit, One, Two}
 use Rattle.formula.specs.declared.Place.{Place}
 use Rattle.formula.specs.Formula.{End, lo, hi, Face, at, Interval, dim, beside}

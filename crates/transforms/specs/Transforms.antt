@@ -4,8 +4,8 @@ use Prim.Native.Nat.{ℕ, _+_, _<_}
 use lib.Dec.{ltb}
 use Rattle.formula.specs.declared.Sort.{Sort}
 use Rattle.formula.specs.declared.Sort.the-variants.{Faces, Intervals}
-use Rattle.formula.specs.declared.Op.{Op as Asked}
-use Rattle.formula.specs.declared.Op.the-variants.{DShift, DSubst}
+use Rattle.operations.specs.declared.Op.{Op as Asked}
+use Rattle.operations.specs.declared.Op.the-variants.{DShift, DSubst}
 use Rattle.formula.specs.Operations.{Op, shift, subst}
 use Rattle.formula.specs.Bytes.{dimBytes}
 use Rattle.formula.specs.Answers.{pick}

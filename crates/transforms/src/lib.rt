@@ -1,9 +1,9 @@
 // The judgements of a transformed formula, beside the bytes of the result.
-use formula::Op;
-use formula::Outcome;
 use formula::Place;
 use formula::Sort;
 use formula::Step;
+use operations::Op;
+use operations::Outcome;
 use steps::Ran;
 ghost use mathlib.Core.Path.{_≡_};
 ghost use mathlib.Core.List.{[], _∷_};
@@ -175,7 +175,7 @@ fn image(op: Op, r: &[u8], t: &[u8], out: &mut [u8]) -> usize
     requires { ⌜ Known Sort.Intervals (now r) × KnownOp op (now t) × Is Sort.Intervals (transformOf Sort.Intervals (opOf op (now t)) (treeOf Sort.Intervals (now r))) (encode Sort.Intervals (transformOf Sort.Intervals (opOf op (now t)) (treeOf Sort.Intervals (now r)))) × (1022 ≤ length (now out)) ⌝ }
     ensures { λ m. ⌜ (m ≤ length (now (out .exit))) × Is Sort.Intervals (transformOf Sort.Intervals (opOf op (now (t .entry))) (treeOf Sort.Intervals (now (r .entry)))) (take m (now (out .exit))) ⌝ }
 {
-    match formula::transform(Sort::Intervals, op, r, t, out) {
+    match operations::transform(Sort::Intervals, op, r, t, out) {
         Outcome::Done(z) => z.len,
         Outcome::Short(_) => 0,
         Outcome::Over => 0,
@@ -190,7 +190,7 @@ fn boundary_steps(l: &mut [u8], r: &[u8]) -> Ran
 {
     let mut zero = [0u8; 1024];
     let mut one = [0u8; 1024];
-    match formula::boundary(r, &mut zero, &mut one) {
+    match operations::boundary(r, &mut zero, &mut one) {
         Outcome::Done(z) => {
             let m = z.len;
             let a = &zero[..m];

@@ -18,11 +18,11 @@ loop-holds c = search needs
 gap-requires : tie.Need-gap-requires Inv-loop μ-loop
 gap-requires c κs = search needs
 
-four-requires : tie.Need-four-requires Inv-loop μ-loop
-four-requires c κs = search needs
+word-requires : tie.Need-word-requires Inv-loop μ-loop
+word-requires c κs = search needs
 
-number-requires : tie.Need-number-requires Inv-loop μ-loop
-number-requires c κs = search needs
+place-requires : tie.Need-place-requires Inv-loop μ-loop
+place-requires c κs = search needs
 
 array-read-damaged : tie.Need-array-read-damaged Inv-loop μ-loop
 array-read-damaged c = search needs
@@ -59,8 +59,8 @@ damages-spec =
     μ-loop
     loop-holds
     gap-requires
-    four-requires
-    number-requires
+    word-requires
+    place-requires
     array-read-damaged
     damaged-requires
     add-i

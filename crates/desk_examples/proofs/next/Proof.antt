@@ -5,11 +5,8 @@ use Rattle.desk_examples.proofs.next.Tie as tie
 use mathlib.Core.Path.{sym}
 use lib.Seq.{length-take-le}
 
-four-requires : tie.Need-four-requires
-four-requires c κs = search needs
-
-number-requires : tie.Need-number-requires
-number-requires c κs = search needs
+read-number-requires : tie.Need-read-number-requires
+read-number-requires c κs = search needs
 
 returns : tie.Need-returns
 returns c = search needs
@@ -36,8 +33,7 @@ pub next-spec : {M : Type 1} → statement M
 next-spec =
     tie.close
     (tie.spec
-    four-requires
-    number-requires
+    read-number-requires
     returns
     slice-relend-prefix-ledger
     slice-aggregate-ledger

@@ -5,11 +5,11 @@ use Rattle.replay.proofs.next.Tie as tie
 use mathlib.Core.Path.{sym}
 use lib.Seq.{length-take-le}
 
-number-requires : tie.Need-number-requires
-number-requires c κs = search needs
+read-number-requires : tie.Need-read-number-requires
+read-number-requires c κs = search needs
 
-number-requires-2 : tie.Need-number-requires-2
-number-requires-2 c κs = search needs
+read-number-requires-2 : tie.Need-read-number-requires-2
+read-number-requires-2 c κs = search needs
 
 returns : tie.Need-returns
 returns c = search needs
@@ -36,8 +36,8 @@ pub next-spec : {M : Type 1} → statement M
 next-spec =
     tie.close
     (tie.spec
-    number-requires
-    number-requires-2
+    read-number-requires
+    read-number-requires-2
     returns
     slice-relend-prefix-list
     slice-aggregate-list

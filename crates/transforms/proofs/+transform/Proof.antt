@@ -38,910 +38,147 @@ abbrev transform-below : ℕ → In 4 transform-kinds.ps
 transform-below t =
     and 4 transform-kinds.ps (falls 4 transform-kinds.ps _<_ μ-transform t) transform.Pre
 
-transform-step-requires : (t : ℕ) → transform-lts.Need-step-requires (
-  step-reads.Asked,
-  step-reads.Learnt,
-  transform-whole-reads.Asked,
-  transform-whole-reads.Learnt,
-  transform-literal-reads.Asked,
-  transform-literal-reads.Learnt,
-  transform-below t,
-  transform.Post,
-  is-done-reads.Asked,
-  is-done-reads.Learnt,
-  step-of-reads.Asked,
-  step-of-reads.Learnt,
-  formula-at-reads.Asked,
-  formula-at-reads.Learnt,
-  behind-reads.Asked,
-  behind-reads.Learnt,
-) (transform-at t) transform.Post
+-- What transform is told of the functions that it calls.
+abbrev transform-claims : ℕ → transform-lts.Claims
+transform-claims t = (step-reads.Asked, step-reads.Learnt, transform-whole-reads.Asked, transform-whole-reads.Learnt, transform-literal-reads.Asked, transform-literal-reads.Learnt, transform-below t, transform.Post, is-done-reads.Asked, is-done-reads.Learnt, step-of-reads.Asked, step-of-reads.Learnt, formula-at-reads.Asked, formula-at-reads.Learnt, behind-reads.Asked, behind-reads.Learnt)
+
+transform-step-requires : (t : ℕ) → transform-lts.Need-step-requires (transform-claims t) (transform-at t) transform.Post
 transform-step-requires t c κs = tt
 
-transform-enum-told : (t : ℕ) → transform-lts.Need-enum-told (
-  step-reads.Asked,
-  step-reads.Learnt,
-  transform-whole-reads.Asked,
-  transform-whole-reads.Learnt,
-  transform-literal-reads.Asked,
-  transform-literal-reads.Learnt,
-  transform-below t,
-  transform.Post,
-  is-done-reads.Asked,
-  is-done-reads.Learnt,
-  step-of-reads.Asked,
-  step-of-reads.Learnt,
-  formula-at-reads.Asked,
-  formula-at-reads.Learnt,
-  behind-reads.Asked,
-  behind-reads.Learnt,
-) (transform-at t) transform.Post
+transform-enum-told : (t : ℕ) → transform-lts.Need-enum-told (transform-claims t) (transform-at t) transform.Post
 transform-enum-told t c = search needs
 
-transform-transform-whole-requires : (t : ℕ) → transform-lts.Need-transform-whole-requires (
-  step-reads.Asked,
-  step-reads.Learnt,
-  transform-whole-reads.Asked,
-  transform-whole-reads.Learnt,
-  transform-literal-reads.Asked,
-  transform-literal-reads.Learnt,
-  transform-below t,
-  transform.Post,
-  is-done-reads.Asked,
-  is-done-reads.Learnt,
-  step-of-reads.Asked,
-  step-of-reads.Learnt,
-  formula-at-reads.Asked,
-  formula-at-reads.Learnt,
-  behind-reads.Asked,
-  behind-reads.Learnt,
-) (transform-at t) transform.Post
+transform-transform-whole-requires : (t : ℕ) → transform-lts.Need-transform-whole-requires (transform-claims t) (transform-at t) transform.Post
 transform-transform-whole-requires t c κs = (c .before .before .before .before .before .before .before .before .pre .1 .0, is-long (c .before .before .before .before .before .before .before .before .pre .1 .1), is-short (c .before .before .before .before .before .before .before .before .pre .1 .1), is-short (c .before .before .before .before .before .before .before .before .pre .1 .3), c .before .before .before .before .before .before .before .before .pre .1 .2, omega arith)
 
-transform-enum-known-n : (t : ℕ) → transform-lts.Need-enum-known-n (
-  step-reads.Asked,
-  step-reads.Learnt,
-  transform-whole-reads.Asked,
-  transform-whole-reads.Learnt,
-  transform-literal-reads.Asked,
-  transform-literal-reads.Learnt,
-  transform-below t,
-  transform.Post,
-  is-done-reads.Asked,
-  is-done-reads.Learnt,
-  step-of-reads.Asked,
-  step-of-reads.Learnt,
-  formula-at-reads.Asked,
-  formula-at-reads.Learnt,
-  behind-reads.Asked,
-  behind-reads.Learnt,
-) (transform-at t) transform.Post
+transform-enum-known-n : (t : ℕ) → transform-lts.Need-enum-known-n (transform-claims t) (transform-at t) transform.Post
 transform-enum-known-n t c = search needs
 
-transform-transform-literal-requires : (t : ℕ) → transform-lts.Need-transform-literal-requires (
-  step-reads.Asked,
-  step-reads.Learnt,
-  transform-whole-reads.Asked,
-  transform-whole-reads.Learnt,
-  transform-literal-reads.Asked,
-  transform-literal-reads.Learnt,
-  transform-below t,
-  transform.Post,
-  is-done-reads.Asked,
-  is-done-reads.Learnt,
-  step-of-reads.Asked,
-  step-of-reads.Learnt,
-  formula-at-reads.Asked,
-  formula-at-reads.Learnt,
-  behind-reads.Asked,
-  behind-reads.Learnt,
-) (transform-at t) transform.Post
+transform-transform-literal-requires : (t : ℕ) → transform-lts.Need-transform-literal-requires (transform-claims t) (transform-at t) transform.Post
 transform-transform-literal-requires t c κs = (c .before .before .before .before .before .before .before .before .before .pre .1 .0, c .before .before .before .before .before .before .before .before .before .pre .1 .1, c .before .before .before .before .before .before .before .before .before .pre .1 .2, record { place = _; steps = sym (c .before .before .before .before .step .ensures) ∙ c .before .before .n .given .1 }, c .before .before .before .before .before .before .before .before .before .pre .1 .3)
 
-transform-enum-told-2 : (t : ℕ) → transform-lts.Need-enum-told-2 (
-  step-reads.Asked,
-  step-reads.Learnt,
-  transform-whole-reads.Asked,
-  transform-whole-reads.Learnt,
-  transform-literal-reads.Asked,
-  transform-literal-reads.Learnt,
-  transform-below t,
-  transform.Post,
-  is-done-reads.Asked,
-  is-done-reads.Learnt,
-  step-of-reads.Asked,
-  step-of-reads.Learnt,
-  formula-at-reads.Asked,
-  formula-at-reads.Learnt,
-  behind-reads.Asked,
-  behind-reads.Learnt,
-) (transform-at t) transform.Post
+transform-enum-told-2 : (t : ℕ) → transform-lts.Need-enum-told-2 (transform-claims t) (transform-at t) transform.Post
 transform-enum-told-2 t c = search needs
 
-transform-sub-transform : (t : ℕ) → transform-lts.Need-sub-transform (
-  step-reads.Asked,
-  step-reads.Learnt,
-  transform-whole-reads.Asked,
-  transform-whole-reads.Learnt,
-  transform-literal-reads.Asked,
-  transform-literal-reads.Learnt,
-  transform-below t,
-  transform.Post,
-  is-done-reads.Asked,
-  is-done-reads.Learnt,
-  step-of-reads.Asked,
-  step-of-reads.Learnt,
-  formula-at-reads.Asked,
-  formula-at-reads.Learnt,
-  behind-reads.Asked,
-  behind-reads.Learnt,
-) (transform-at t) transform.Post
+transform-sub-transform : (t : ℕ) → transform-lts.Need-sub-transform (transform-claims t) (transform-at t) transform.Post
 transform-sub-transform t c = is-long (c .before .before .before .before .before .before .before .before .pre .1 .1)
 
-transform-part-transform-start : (t : ℕ) → transform-lts.Need-part-transform-start (
-  step-reads.Asked,
-  step-reads.Learnt,
-  transform-whole-reads.Asked,
-  transform-whole-reads.Learnt,
-  transform-literal-reads.Asked,
-  transform-literal-reads.Learnt,
-  transform-below t,
-  transform.Post,
-  is-done-reads.Asked,
-  is-done-reads.Learnt,
-  step-of-reads.Asked,
-  step-of-reads.Learnt,
-  formula-at-reads.Asked,
-  formula-at-reads.Learnt,
-  behind-reads.Asked,
-  behind-reads.Learnt,
-) (transform-at t) transform.Post
+transform-part-transform-start : (t : ℕ) → transform-lts.Need-part-transform-start (transform-claims t) (transform-at t) transform.Post
 transform-part-transform-start t c = is-long (c .before .before .before .before .before .before .before .before .pre .1 .1)
 
-transform-part-transform-end : (t : ℕ) → transform-lts.Need-part-transform-end (
-  step-reads.Asked,
-  step-reads.Learnt,
-  transform-whole-reads.Asked,
-  transform-whole-reads.Learnt,
-  transform-literal-reads.Asked,
-  transform-literal-reads.Learnt,
-  transform-below t,
-  transform.Post,
-  is-done-reads.Asked,
-  is-done-reads.Learnt,
-  step-of-reads.Asked,
-  step-of-reads.Learnt,
-  formula-at-reads.Asked,
-  formula-at-reads.Learnt,
-  behind-reads.Asked,
-  behind-reads.Learnt,
-) (transform-at t) transform.Post
+transform-part-transform-end : (t : ℕ) → transform-lts.Need-part-transform-end (transform-claims t) (transform-at t) transform.Post
 transform-part-transform-end t c = omega arith
 
-transform-sub-transform-2 : (t : ℕ) → transform-lts.Need-sub-transform-2 (
-  step-reads.Asked,
-  step-reads.Learnt,
-  transform-whole-reads.Asked,
-  transform-whole-reads.Learnt,
-  transform-literal-reads.Asked,
-  transform-literal-reads.Learnt,
-  transform-below t,
-  transform.Post,
-  is-done-reads.Asked,
-  is-done-reads.Learnt,
-  step-of-reads.Asked,
-  step-of-reads.Learnt,
-  formula-at-reads.Asked,
-  formula-at-reads.Learnt,
-  behind-reads.Asked,
-  behind-reads.Learnt,
-) (transform-at t) transform.Post
+transform-sub-transform-2 : (t : ℕ) → transform-lts.Need-sub-transform-2 (transform-claims t) (transform-at t) transform.Post
 transform-sub-transform-2 t c = is-long (c .before .before .before .before .before .before .before .before .before .pre .1 .3)
 
-transform-part-transform-start-2 : (t : ℕ) → transform-lts.Need-part-transform-start-2 (
-  step-reads.Asked,
-  step-reads.Learnt,
-  transform-whole-reads.Asked,
-  transform-whole-reads.Learnt,
-  transform-literal-reads.Asked,
-  transform-literal-reads.Learnt,
-  transform-below t,
-  transform.Post,
-  is-done-reads.Asked,
-  is-done-reads.Learnt,
-  step-of-reads.Asked,
-  step-of-reads.Learnt,
-  formula-at-reads.Asked,
-  formula-at-reads.Learnt,
-  behind-reads.Asked,
-  behind-reads.Learnt,
-) (transform-at t) transform.Post
+transform-part-transform-start-2 : (t : ℕ) → transform-lts.Need-part-transform-start-2 (transform-claims t) (transform-at t) transform.Post
 transform-part-transform-start-2 t c = is-long (c .before .before .before .before .before .before .before .before .before .pre .1 .3)
 
-transform-part-transform-end-2 : (t : ℕ) → transform-lts.Need-part-transform-end-2 (
-  step-reads.Asked,
-  step-reads.Learnt,
-  transform-whole-reads.Asked,
-  transform-whole-reads.Learnt,
-  transform-literal-reads.Asked,
-  transform-literal-reads.Learnt,
-  transform-below t,
-  transform.Post,
-  is-done-reads.Asked,
-  is-done-reads.Learnt,
-  step-of-reads.Asked,
-  step-of-reads.Learnt,
-  formula-at-reads.Asked,
-  formula-at-reads.Learnt,
-  behind-reads.Asked,
-  behind-reads.Learnt,
-) (transform-at t) transform.Post
+transform-part-transform-end-2 : (t : ℕ) → transform-lts.Need-part-transform-end-2 (transform-claims t) (transform-at t) transform.Post
 transform-part-transform-end-2 t c = omega arith
 
-transform-transform-requires : (t : ℕ) → transform-lts.Need-transform-requires (
-  step-reads.Asked,
-  step-reads.Learnt,
-  transform-whole-reads.Asked,
-  transform-whole-reads.Learnt,
-  transform-literal-reads.Asked,
-  transform-literal-reads.Learnt,
-  transform-below t,
-  transform.Post,
-  is-done-reads.Asked,
-  is-done-reads.Learnt,
-  step-of-reads.Asked,
-  step-of-reads.Learnt,
-  formula-at-reads.Asked,
-  formula-at-reads.Learnt,
-  behind-reads.Asked,
-  behind-reads.Learnt,
-) (transform-at t) transform.Post
+transform-transform-requires : (t : ℕ) → transform-lts.Need-transform-requires (transform-claims t) (transform-at t) transform.Post
 transform-transform-requires t c κs = let a = c .before .before .before .before .before .before .before .before .before .before .args in
     (omega (arith, c .before .before .before .before .before .before .before .before .before .before .pre .0, is-long (c .before .before .before .before .before .before .before .before .before .before .pre .1 .1), ap length (rest-of (a .f .now) 1), length-drop 1 (a .f .now)), (c .before .before .before .before .before .before .before .before .before .before .pre .1 .0, subst (Known (a .sort)) (sym (rest-of (a .f .now) 1)) (one-known (treeOf (a .sort) (a .f .now)) (viewed (c .before .before .before .before .before .before .before .before .before .before .pre .1 .1) _ _ (c .before .before .before .before .before .step .ensures) (c .before .before .before .enum-told2 .given .1))), c .before .before .before .before .before .before .before .before .before .before .pre .1 .2, transform-rest (a .sort) (opOf (a .op) (a .t .now)) (viewed (c .before .before .before .before .before .before .before .before .before .before .pre .1 .1) _ _ (c .before .before .before .before .before .step .ensures) (c .before .before .before .enum-told2 .given .1)) (c .before .before .before .before .before .before .before .before .before .before .pre .1 .3) (rest-of (a .f .now) 1) (rest-of (a .out .now) 1)))
 
-transform-is-done-requires : (t : ℕ) → transform-lts.Need-is-done-requires (
-  step-reads.Asked,
-  step-reads.Learnt,
-  transform-whole-reads.Asked,
-  transform-whole-reads.Learnt,
-  transform-literal-reads.Asked,
-  transform-literal-reads.Learnt,
-  transform-below t,
-  transform.Post,
-  is-done-reads.Asked,
-  is-done-reads.Learnt,
-  step-of-reads.Asked,
-  step-of-reads.Learnt,
-  formula-at-reads.Asked,
-  formula-at-reads.Learnt,
-  behind-reads.Asked,
-  behind-reads.Learnt,
-) (transform-at t) transform.Post
+transform-is-done-requires : (t : ℕ) → transform-lts.Need-is-done-requires (transform-claims t) (transform-at t) transform.Post
 transform-is-done-requires t c κs = tt
 
-transform-same-length : (t : ℕ) → transform-lts.Need-same-length (
-  step-reads.Asked,
-  step-reads.Learnt,
-  transform-whole-reads.Asked,
-  transform-whole-reads.Learnt,
-  transform-literal-reads.Asked,
-  transform-literal-reads.Learnt,
-  transform-below t,
-  transform.Post,
-  is-done-reads.Asked,
-  is-done-reads.Learnt,
-  step-of-reads.Asked,
-  step-of-reads.Learnt,
-  formula-at-reads.Asked,
-  formula-at-reads.Learnt,
-  behind-reads.Asked,
-  behind-reads.Learnt,
-) (transform-at t) transform.Post
+transform-same-length : (t : ℕ) → transform-lts.Need-same-length (transform-claims t) (transform-at t) transform.Post
 transform-same-length t c = search needs
 
-transform-returns : (t : ℕ) → transform-lts.Need-returns (
-  step-reads.Asked,
-  step-reads.Learnt,
-  transform-whole-reads.Asked,
-  transform-whole-reads.Learnt,
-  transform-literal-reads.Asked,
-  transform-literal-reads.Learnt,
-  transform-below t,
-  transform.Post,
-  is-done-reads.Asked,
-  is-done-reads.Learnt,
-  step-of-reads.Asked,
-  step-of-reads.Learnt,
-  formula-at-reads.Asked,
-  formula-at-reads.Learnt,
-  behind-reads.Asked,
-  behind-reads.Learnt,
-) (transform-at t) transform.Post
+transform-returns : (t : ℕ) → transform-lts.Need-returns (transform-claims t) (transform-at t) transform.Post
 transform-returns t c = let a = c .before .before .before .before .before .before .before .before .before .before .before .before .before .before .before .args in one-stop (a .sort) (emitTransform (a .sort) (opOf (a .op) (a .t .now))) (transforms (a .sort) (opOf (a .op) (a .t .now))) (transformKind (a .sort) (a .op)) (transform-laws (a .sort) (a .op) (a .t .now)) (treeOf (a .sort) (a .f .now)) (viewed (c .before .before .before .before .before .before .before .before .before .before .before .before .before .before .before .pre .1 .1) _ _ (c .before .before .before .before .before .before .before .before .before .before .step .ensures) (c .before .before .before .before .before .before .before .before .enum-told2 .given .1)) (part-runs (a .sort) (emitTransform (a .sort) (opOf (a .op) (a .t .now))) (rest-of (a .f .now) 1) (c .before .before .before .before .transform .ensures)) (sym (c .before .is-done .ensures) ∙ not-true _ (c .if1 .taken))
 
-transform-step-of-requires : (t : ℕ) → transform-lts.Need-step-of-requires (
-  step-reads.Asked,
-  step-reads.Learnt,
-  transform-whole-reads.Asked,
-  transform-whole-reads.Learnt,
-  transform-literal-reads.Asked,
-  transform-literal-reads.Learnt,
-  transform-below t,
-  transform.Post,
-  is-done-reads.Asked,
-  is-done-reads.Learnt,
-  step-of-reads.Asked,
-  step-of-reads.Learnt,
-  formula-at-reads.Asked,
-  formula-at-reads.Learnt,
-  behind-reads.Asked,
-  behind-reads.Learnt,
-) (transform-at t) transform.Post
+transform-step-of-requires : (t : ℕ) → transform-lts.Need-step-of-requires (transform-claims t) (transform-at t) transform.Post
 transform-step-of-requires t c κs = tt
 
-transform-transform-whole-requires-2 : (t : ℕ) → transform-lts.Need-transform-whole-requires-2 (
-  step-reads.Asked,
-  step-reads.Learnt,
-  transform-whole-reads.Asked,
-  transform-whole-reads.Learnt,
-  transform-literal-reads.Asked,
-  transform-literal-reads.Learnt,
-  transform-below t,
-  transform.Post,
-  is-done-reads.Asked,
-  is-done-reads.Learnt,
-  step-of-reads.Asked,
-  step-of-reads.Learnt,
-  formula-at-reads.Asked,
-  formula-at-reads.Learnt,
-  behind-reads.Asked,
-  behind-reads.Learnt,
-) (transform-at t) transform.Post
+transform-transform-whole-requires-2 : (t : ℕ) → transform-lts.Need-transform-whole-requires-2 (transform-claims t) (transform-at t) transform.Post
 transform-transform-whole-requires-2 t c κs = (runs-led (c .before .before .before .before .before .before .transform .ensures), is-long (c .before .before .before .before .before .before .before .before .before .before .before .before .before .before .before .before .before .pre .1 .1), is-short (c .before .before .before .before .before .before .before .before .before .before .before .before .before .before .before .before .before .pre .1 .1), is-short (c .before .before .before .before .before .before .before .before .before .before .before .before .before .before .before .before .before .pre .1 .3), c .before .before .before .before .before .before .before .before .before .before .before .before .before .before .before .before .before .pre .1 .2, omega arith)
 
-transform-enum-told-3 : (t : ℕ) → transform-lts.Need-enum-told-3 (
-  step-reads.Asked,
-  step-reads.Learnt,
-  transform-whole-reads.Asked,
-  transform-whole-reads.Learnt,
-  transform-literal-reads.Asked,
-  transform-literal-reads.Learnt,
-  transform-below t,
-  transform.Post,
-  is-done-reads.Asked,
-  is-done-reads.Learnt,
-  step-of-reads.Asked,
-  step-of-reads.Learnt,
-  formula-at-reads.Asked,
-  formula-at-reads.Learnt,
-  behind-reads.Asked,
-  behind-reads.Learnt,
-) (transform-at t) transform.Post
+transform-enum-told-3 : (t : ℕ) → transform-lts.Need-enum-told-3 (transform-claims t) (transform-at t) transform.Post
 transform-enum-told-3 t c = search needs
 
-transform-formula-at-requires : (t : ℕ) → transform-lts.Need-formula-at-requires (
-  step-reads.Asked,
-  step-reads.Learnt,
-  transform-whole-reads.Asked,
-  transform-whole-reads.Learnt,
-  transform-literal-reads.Asked,
-  transform-literal-reads.Learnt,
-  transform-below t,
-  transform.Post,
-  is-done-reads.Asked,
-  is-done-reads.Learnt,
-  step-of-reads.Asked,
-  step-of-reads.Learnt,
-  formula-at-reads.Asked,
-  formula-at-reads.Learnt,
-  behind-reads.Asked,
-  behind-reads.Learnt,
-) (transform-at t) transform.Post
+transform-formula-at-requires : (t : ℕ) → transform-lts.Need-formula-at-requires (transform-claims t) (transform-at t) transform.Post
 transform-formula-at-requires t c κs = tt
 
-transform-formula-at-requires-2 : (t : ℕ) → transform-lts.Need-formula-at-requires-2 (
-  step-reads.Asked,
-  step-reads.Learnt,
-  transform-whole-reads.Asked,
-  transform-whole-reads.Learnt,
-  transform-literal-reads.Asked,
-  transform-literal-reads.Learnt,
-  transform-below t,
-  transform.Post,
-  is-done-reads.Asked,
-  is-done-reads.Learnt,
-  step-of-reads.Asked,
-  step-of-reads.Learnt,
-  formula-at-reads.Asked,
-  formula-at-reads.Learnt,
-  behind-reads.Asked,
-  behind-reads.Learnt,
-) (transform-at t) transform.Post
+transform-formula-at-requires-2 : (t : ℕ) → transform-lts.Need-formula-at-requires-2 (transform-claims t) (transform-at t) transform.Post
 transform-formula-at-requires-2 t c κs = tt
 
-transform-transform-requires-2 : (t : ℕ) → transform-lts.Need-transform-requires-2 (
-  step-reads.Asked,
-  step-reads.Learnt,
-  transform-whole-reads.Asked,
-  transform-whole-reads.Learnt,
-  transform-literal-reads.Asked,
-  transform-literal-reads.Learnt,
-  transform-below t,
-  transform.Post,
-  is-done-reads.Asked,
-  is-done-reads.Learnt,
-  step-of-reads.Asked,
-  step-of-reads.Learnt,
-  formula-at-reads.Asked,
-  formula-at-reads.Learnt,
-  behind-reads.Asked,
-  behind-reads.Learnt,
-) (transform-at t) transform.Post
+transform-transform-requires-2 : (t : ℕ) → transform-lts.Need-transform-requires-2 (transform-claims t) (transform-at t) transform.Post
 transform-transform-requires-2 t c κs = let a = c .before .before .before .before .before .before .before .before .before .before .args in
     (omega (arith, c .before .before .before .before .before .before .before .before .before .before .pre .0, ap length (c .before .before .formula-at .ensures), two-inside (treeOf (a .sort) (a .f .now)) (viewed (c .before .before .before .before .before .before .before .before .before .before .pre .1 .1) _ _ (c .before .before .before .before .before .step .ensures) (c .before .before .before .enum-told3 .given .1))), (c .before .before .before .before .before .before .before .before .before .before .pre .1 .0, subst (Known (a .sort)) (sym (c .before .before .formula-at .ensures)) (two-known (treeOf (a .sort) (a .f .now)) (viewed (c .before .before .before .before .before .before .before .before .before .before .pre .1 .1) _ _ (c .before .before .before .before .before .step .ensures) (c .before .before .before .enum-told3 .given .1)) .0), c .before .before .before .before .before .before .before .before .before .before .pre .1 .2, transform-left (a .sort) (opOf (a .op) (a .t .now)) (viewed (c .before .before .before .before .before .before .before .before .before .before .pre .1 .1) _ _ (c .before .before .before .before .before .step .ensures) (c .before .before .before .enum-told3 .given .1)) (c .before .before .before .before .before .before .before .before .before .before .pre .1 .3) (c .before .before .formula-at .ensures) (c .before .formula-at2 .ensures)))
 
-transform-is-done-requires-2 : (t : ℕ) → transform-lts.Need-is-done-requires-2 (
-  step-reads.Asked,
-  step-reads.Learnt,
-  transform-whole-reads.Asked,
-  transform-whole-reads.Learnt,
-  transform-literal-reads.Asked,
-  transform-literal-reads.Learnt,
-  transform-below t,
-  transform.Post,
-  is-done-reads.Asked,
-  is-done-reads.Learnt,
-  step-of-reads.Asked,
-  step-of-reads.Learnt,
-  formula-at-reads.Asked,
-  formula-at-reads.Learnt,
-  behind-reads.Asked,
-  behind-reads.Learnt,
-) (transform-at t) transform.Post
+transform-is-done-requires-2 : (t : ℕ) → transform-lts.Need-is-done-requires-2 (transform-claims t) (transform-at t) transform.Post
 transform-is-done-requires-2 t c κs = tt
 
-transform-same-length-2 : (t : ℕ) → transform-lts.Need-same-length-2 (
-  step-reads.Asked,
-  step-reads.Learnt,
-  transform-whole-reads.Asked,
-  transform-whole-reads.Learnt,
-  transform-literal-reads.Asked,
-  transform-literal-reads.Learnt,
-  transform-below t,
-  transform.Post,
-  is-done-reads.Asked,
-  is-done-reads.Learnt,
-  step-of-reads.Asked,
-  step-of-reads.Learnt,
-  formula-at-reads.Asked,
-  formula-at-reads.Learnt,
-  behind-reads.Asked,
-  behind-reads.Learnt,
-) (transform-at t) transform.Post
+transform-same-length-2 : (t : ℕ) → transform-lts.Need-same-length-2 (transform-claims t) (transform-at t) transform.Post
 transform-same-length-2 t c = search needs
 
-transform-returns-2 : (t : ℕ) → transform-lts.Need-returns-2 (
-  step-reads.Asked,
-  step-reads.Learnt,
-  transform-whole-reads.Asked,
-  transform-whole-reads.Learnt,
-  transform-literal-reads.Asked,
-  transform-literal-reads.Learnt,
-  transform-below t,
-  transform.Post,
-  is-done-reads.Asked,
-  is-done-reads.Learnt,
-  step-of-reads.Asked,
-  step-of-reads.Learnt,
-  formula-at-reads.Asked,
-  formula-at-reads.Learnt,
-  behind-reads.Asked,
-  behind-reads.Learnt,
-) (transform-at t) transform.Post
+transform-returns-2 : (t : ℕ) → transform-lts.Need-returns-2 (transform-claims t) (transform-at t) transform.Post
 transform-returns-2 t c = let a = c .before .before .before .before .before .before .before .before .before .before .before .before .before .before .before .args in two-stop (a .sort) (emitTransform (a .sort) (opOf (a .op) (a .t .now))) (transforms (a .sort) (opOf (a .op) (a .t .now))) (transformKind (a .sort) (a .op)) (transform-laws (a .sort) (a .op) (a .t .now)) (treeOf (a .sort) (a .f .now)) (viewed (c .before .before .before .before .before .before .before .before .before .before .before .before .before .before .before .pre .1 .1) _ _ (c .before .before .before .before .before .before .before .before .before .before .step .ensures) (c .before .before .before .before .before .before .before .before .enum-told3 .given .1)) (part-runs (a .sort) (emitTransform (a .sort) (opOf (a .op) (a .t .now))) (c .before .before .before .before .before .before .before .formula-at .ensures) (c .before .before .before .before .transform2 .ensures)) (sym (c .before .is-done2 .ensures) ∙ not-true _ (c .if2 .taken))
 
-transform-behind-requires : (t : ℕ) → transform-lts.Need-behind-requires (
-  step-reads.Asked,
-  step-reads.Learnt,
-  transform-whole-reads.Asked,
-  transform-whole-reads.Learnt,
-  transform-literal-reads.Asked,
-  transform-literal-reads.Learnt,
-  transform-below t,
-  transform.Post,
-  is-done-reads.Asked,
-  is-done-reads.Learnt,
-  step-of-reads.Asked,
-  step-of-reads.Learnt,
-  formula-at-reads.Asked,
-  formula-at-reads.Learnt,
-  behind-reads.Asked,
-  behind-reads.Learnt,
-) (transform-at t) transform.Post
+transform-behind-requires : (t : ℕ) → transform-lts.Need-behind-requires (transform-claims t) (transform-at t) transform.Post
 transform-behind-requires t c κs = let a = c .before .before .before .before .before .before .before .before .before .before .before .before .before .before .before .args in omega (arith, ap length (c .before .before .before .before .before .before .before .formula-at .ensures), two-inside (treeOf (a .sort) (a .f .now)) (viewed (c .before .before .before .before .before .before .before .before .before .before .before .before .before .before .before .pre .1 .1) _ _ (c .before .before .before .before .before .before .before .before .before .before .step .ensures) (c .before .before .before .before .before .before .before .before .enum-told3 .given .1)))
 
-transform-behind-requires-2 : (t : ℕ) → transform-lts.Need-behind-requires-2 (
-  step-reads.Asked,
-  step-reads.Learnt,
-  transform-whole-reads.Asked,
-  transform-whole-reads.Learnt,
-  transform-literal-reads.Asked,
-  transform-literal-reads.Learnt,
-  transform-below t,
-  transform.Post,
-  is-done-reads.Asked,
-  is-done-reads.Learnt,
-  step-of-reads.Asked,
-  step-of-reads.Learnt,
-  formula-at-reads.Asked,
-  formula-at-reads.Learnt,
-  behind-reads.Asked,
-  behind-reads.Learnt,
-) (transform-at t) transform.Post
+transform-behind-requires-2 : (t : ℕ) → transform-lts.Need-behind-requires-2 (transform-claims t) (transform-at t) transform.Post
 transform-behind-requires-2 t c κs = let a = c .before .before .before .before .before .before .before .before .before .before .before .before .before .before .before .before .args in transform-inside (a .sort) (opOf (a .op) (a .t .now)) (viewed (c .before .before .before .before .before .before .before .before .before .before .before .before .before .before .before .before .pre .1 .1) _ _ (c .before .before .before .before .before .before .before .before .before .before .before .step .ensures) (c .before .before .before .before .before .before .before .before .before .enum-told3 .given .1)) (c .before .before .before .before .before .before .before .before .before .before .before .before .before .before .before .before .pre .1 .3) (c .before .before .before .before .before .before .before .before .formula-at .ensures) (c .before .before .before .before .before .before .before .formula-at2 .ensures)
 
-transform-transform-requires-3 : (t : ℕ) → transform-lts.Need-transform-requires-3 (
-  step-reads.Asked,
-  step-reads.Learnt,
-  transform-whole-reads.Asked,
-  transform-whole-reads.Learnt,
-  transform-literal-reads.Asked,
-  transform-literal-reads.Learnt,
-  transform-below t,
-  transform.Post,
-  is-done-reads.Asked,
-  is-done-reads.Learnt,
-  step-of-reads.Asked,
-  step-of-reads.Learnt,
-  formula-at-reads.Asked,
-  formula-at-reads.Learnt,
-  behind-reads.Asked,
-  behind-reads.Learnt,
-) (transform-at t) transform.Post
+transform-transform-requires-3 : (t : ℕ) → transform-lts.Need-transform-requires-3 (transform-claims t) (transform-at t) transform.Post
 transform-transform-requires-3 t c κs = let a = c .before .before .before .before .before .before .before .before .before .before .before .before .before .before .before .before .before .before .args in
     (omega (arith, c .before .before .before .before .before .before .before .before .before .before .before .before .before .before .before .before .before .before .pre .0, is-long (c .before .before .before .before .before .before .before .before .before .before .before .before .before .before .before .before .before .before .pre .1 .1), ap length (c .before .before .behind .ensures ∙ behind (a .f .now) (c .before .before .before .before .before .before .before .before .before .before .formula-at .ensures)), length-drop (1 + length (partAt (a .sort) (a .f .now) 1)) (a .f .now)), (runs-led (c .before .before .before .before .before .before .before .transform2 .ensures), subst (Known (a .sort)) (sym (c .before .before .behind .ensures ∙ behind (a .f .now) (c .before .before .before .before .before .before .before .before .before .before .formula-at .ensures))) (two-known (treeOf (a .sort) (a .f .now)) (viewed (c .before .before .before .before .before .before .before .before .before .before .before .before .before .before .before .before .before .before .pre .1 .1) _ _ (c .before .before .before .before .before .before .before .before .before .before .before .before .before .step .ensures) (c .before .before .before .before .before .before .before .before .before .before .before .enum-told3 .given .1)) .1), c .before .before .before .before .before .before .before .before .before .before .before .before .before .before .before .before .before .before .pre .1 .2, transform-right (a .sort) (opOf (a .op) (a .t .now)) (viewed (c .before .before .before .before .before .before .before .before .before .before .before .before .before .before .before .before .before .before .pre .1 .1) _ _ (c .before .before .before .before .before .before .before .before .before .before .before .before .before .step .ensures) (c .before .before .before .before .before .before .before .before .before .before .before .enum-told3 .given .1)) (c .before .before .before .before .before .before .before .before .before .before .before .before .before .before .before .before .before .before .pre .1 .3) (c .before .before .before .before .before .before .before .before .before .before .formula-at .ensures) (c .before .before .before .before .before .before .before .before .before .formula-at2 .ensures) (c .before .before .behind .ensures) (c .before .behind2 .ensures)))
 
-transform-is-done-requires-3 : (t : ℕ) → transform-lts.Need-is-done-requires-3 (
-  step-reads.Asked,
-  step-reads.Learnt,
-  transform-whole-reads.Asked,
-  transform-whole-reads.Learnt,
-  transform-literal-reads.Asked,
-  transform-literal-reads.Learnt,
-  transform-below t,
-  transform.Post,
-  is-done-reads.Asked,
-  is-done-reads.Learnt,
-  step-of-reads.Asked,
-  step-of-reads.Learnt,
-  formula-at-reads.Asked,
-  formula-at-reads.Learnt,
-  behind-reads.Asked,
-  behind-reads.Learnt,
-) (transform-at t) transform.Post
+transform-is-done-requires-3 : (t : ℕ) → transform-lts.Need-is-done-requires-3 (transform-claims t) (transform-at t) transform.Post
 transform-is-done-requires-3 t c κs = tt
 
-transform-same-length-3 : (t : ℕ) → transform-lts.Need-same-length-3 (
-  step-reads.Asked,
-  step-reads.Learnt,
-  transform-whole-reads.Asked,
-  transform-whole-reads.Learnt,
-  transform-literal-reads.Asked,
-  transform-literal-reads.Learnt,
-  transform-below t,
-  transform.Post,
-  is-done-reads.Asked,
-  is-done-reads.Learnt,
-  step-of-reads.Asked,
-  step-of-reads.Learnt,
-  formula-at-reads.Asked,
-  formula-at-reads.Learnt,
-  behind-reads.Asked,
-  behind-reads.Learnt,
-) (transform-at t) transform.Post
+transform-same-length-3 : (t : ℕ) → transform-lts.Need-same-length-3 (transform-claims t) (transform-at t) transform.Post
 transform-same-length-3 t c = search needs
 
-transform-returns-3 : (t : ℕ) → transform-lts.Need-returns-3 (
-  step-reads.Asked,
-  step-reads.Learnt,
-  transform-whole-reads.Asked,
-  transform-whole-reads.Learnt,
-  transform-literal-reads.Asked,
-  transform-literal-reads.Learnt,
-  transform-below t,
-  transform.Post,
-  is-done-reads.Asked,
-  is-done-reads.Learnt,
-  step-of-reads.Asked,
-  step-of-reads.Learnt,
-  formula-at-reads.Asked,
-  formula-at-reads.Learnt,
-  behind-reads.Asked,
-  behind-reads.Learnt,
-) (transform-at t) transform.Post
+transform-returns-3 : (t : ℕ) → transform-lts.Need-returns-3 (transform-claims t) (transform-at t) transform.Post
 transform-returns-3 t c = let a = c .before .before .before .before .before .before .before .before .before .before .before .before .before .before .before .before .before .before .before .before .before .before .before .args in two-stop-right (a .sort) (emitTransform (a .sort) (opOf (a .op) (a .t .now))) (transforms (a .sort) (opOf (a .op) (a .t .now))) (transformKind (a .sort) (a .op)) (transform-laws (a .sort) (a .op) (a .t .now)) (treeOf (a .sort) (a .f .now)) (viewed (c .before .before .before .before .before .before .before .before .before .before .before .before .before .before .before .before .before .before .before .before .before .before .before .pre .1 .1) _ _ (c .before .before .before .before .before .before .before .before .before .before .before .before .before .before .before .before .before .before .step .ensures) (c .before .before .before .before .before .before .before .before .before .before .before .before .before .before .before .before .enum-told3 .given .1)) (part-runs (a .sort) (emitTransform (a .sort) (opOf (a .op) (a .t .now))) (c .before .before .before .before .before .before .before .before .before .before .before .before .before .before .before .formula-at .ensures) (c .before .before .before .before .before .before .before .before .before .before .before .before .transform2 .ensures)) (sym (c .before .before .before .before .before .before .before .before .before .is-done2 .ensures) ∙ not-false _ (c .before .before .before .before .before .before .before .before .if2 .left)) (part-runs (a .sort) (emitTransform (a .sort) (opOf (a .op) (a .t .now))) (c .before .before .before .before .before .before .before .behind .ensures ∙ behind (a .f .now) (c .before .before .before .before .before .before .before .before .before .before .before .before .before .before .before .formula-at .ensures)) (c .before .before .before .before .transform3 .ensures)) (sym (c .before .is-done3 .ensures) ∙ not-true _ (c .if3 .taken))
 
-transform-step-of-requires-2 : (t : ℕ) → transform-lts.Need-step-of-requires-2 (
-  step-reads.Asked,
-  step-reads.Learnt,
-  transform-whole-reads.Asked,
-  transform-whole-reads.Learnt,
-  transform-literal-reads.Asked,
-  transform-literal-reads.Learnt,
-  transform-below t,
-  transform.Post,
-  is-done-reads.Asked,
-  is-done-reads.Learnt,
-  step-of-reads.Asked,
-  step-of-reads.Learnt,
-  formula-at-reads.Asked,
-  formula-at-reads.Learnt,
-  behind-reads.Asked,
-  behind-reads.Learnt,
-) (transform-at t) transform.Post
+transform-step-of-requires-2 : (t : ℕ) → transform-lts.Need-step-of-requires-2 (transform-claims t) (transform-at t) transform.Post
 transform-step-of-requires-2 t c κs = tt
 
-transform-step-of-requires-3 : (t : ℕ) → transform-lts.Need-step-of-requires-3 (
-  step-reads.Asked,
-  step-reads.Learnt,
-  transform-whole-reads.Asked,
-  transform-whole-reads.Learnt,
-  transform-literal-reads.Asked,
-  transform-literal-reads.Learnt,
-  transform-below t,
-  transform.Post,
-  is-done-reads.Asked,
-  is-done-reads.Learnt,
-  step-of-reads.Asked,
-  step-of-reads.Learnt,
-  formula-at-reads.Asked,
-  formula-at-reads.Learnt,
-  behind-reads.Asked,
-  behind-reads.Learnt,
-) (transform-at t) transform.Post
+transform-step-of-requires-3 : (t : ℕ) → transform-lts.Need-step-of-requires-3 (transform-claims t) (transform-at t) transform.Post
 transform-step-of-requires-3 t c κs = tt
 
-transform-transform-whole-requires-3 : (t : ℕ) → transform-lts.Need-transform-whole-requires-3 (
-  step-reads.Asked,
-  step-reads.Learnt,
-  transform-whole-reads.Asked,
-  transform-whole-reads.Learnt,
-  transform-literal-reads.Asked,
-  transform-literal-reads.Learnt,
-  transform-below t,
-  transform.Post,
-  is-done-reads.Asked,
-  is-done-reads.Learnt,
-  step-of-reads.Asked,
-  step-of-reads.Learnt,
-  formula-at-reads.Asked,
-  formula-at-reads.Learnt,
-  behind-reads.Asked,
-  behind-reads.Learnt,
-) (transform-at t) transform.Post
+transform-transform-whole-requires-3 : (t : ℕ) → transform-lts.Need-transform-whole-requires-3 (transform-claims t) (transform-at t) transform.Post
 transform-transform-whole-requires-3 t c κs = (runs-led (c .before .before .before .before .before .before .before .transform3 .ensures), is-long (c .before .before .before .before .before .before .before .before .before .before .before .before .before .before .before .before .before .before .before .before .before .before .before .before .before .before .pre .1 .1), is-short (c .before .before .before .before .before .before .before .before .before .before .before .before .before .before .before .before .before .before .before .before .before .before .before .before .before .before .pre .1 .1), is-short (c .before .before .before .before .before .before .before .before .before .before .before .before .before .before .before .before .before .before .before .before .before .before .before .before .before .before .pre .1 .3), c .before .before .before .before .before .before .before .before .before .before .before .before .before .before .before .before .before .before .before .before .before .before .before .before .before .before .pre .1 .2, omega arith)
 
-transform-enum-told-4 : (t : ℕ) → transform-lts.Need-enum-told-4 (
-  step-reads.Asked,
-  step-reads.Learnt,
-  transform-whole-reads.Asked,
-  transform-whole-reads.Learnt,
-  transform-literal-reads.Asked,
-  transform-literal-reads.Learnt,
-  transform-below t,
-  transform.Post,
-  is-done-reads.Asked,
-  is-done-reads.Learnt,
-  step-of-reads.Asked,
-  step-of-reads.Learnt,
-  formula-at-reads.Asked,
-  formula-at-reads.Learnt,
-  behind-reads.Asked,
-  behind-reads.Learnt,
-) (transform-at t) transform.Post
+transform-enum-told-4 : (t : ℕ) → transform-lts.Need-enum-told-4 (transform-claims t) (transform-at t) transform.Post
 transform-enum-told-4 t c = search needs
 
-transform-same-length-4 : (t : ℕ) → transform-lts.Need-same-length-4 (
-  step-reads.Asked,
-  step-reads.Learnt,
-  transform-whole-reads.Asked,
-  transform-whole-reads.Learnt,
-  transform-literal-reads.Asked,
-  transform-literal-reads.Learnt,
-  transform-below t,
-  transform.Post,
-  is-done-reads.Asked,
-  is-done-reads.Learnt,
-  step-of-reads.Asked,
-  step-of-reads.Learnt,
-  formula-at-reads.Asked,
-  formula-at-reads.Learnt,
-  behind-reads.Asked,
-  behind-reads.Learnt,
-) (transform-at t) transform.Post
+transform-same-length-4 : (t : ℕ) → transform-lts.Need-same-length-4 (transform-claims t) (transform-at t) transform.Post
 transform-same-length-4 t c = search needs
 
-transform-returns-4 : (t : ℕ) → transform-lts.Need-returns-4 (
-  step-reads.Asked,
-  step-reads.Learnt,
-  transform-whole-reads.Asked,
-  transform-whole-reads.Learnt,
-  transform-literal-reads.Asked,
-  transform-literal-reads.Learnt,
-  transform-below t,
-  transform.Post,
-  is-done-reads.Asked,
-  is-done-reads.Learnt,
-  step-of-reads.Asked,
-  step-of-reads.Learnt,
-  formula-at-reads.Asked,
-  formula-at-reads.Learnt,
-  behind-reads.Asked,
-  behind-reads.Learnt,
-) (transform-at t) transform.Post
+transform-returns-4 : (t : ℕ) → transform-lts.Need-returns-4 (transform-claims t) (transform-at t) transform.Post
 transform-returns-4 t c = let a = c .before .before .before .before .before .before .before .before .before .before .before .args in leaf-runs (a .sort) (emitTransform (a .sort) (opOf (a .op) (a .t .now))) (transforms (a .sort) (opOf (a .op) (a .t .now))) (transformKind (a .sort) (a .op)) (transform-laws (a .sort) (a .op) (a .t .now)) (treeOf (a .sort) (a .f .now)) (viewed (c .before .before .before .before .before .before .before .before .before .before .before .pre .1 .1) _ _ (c .before .before .before .before .before .before .step .ensures) (c .before .before .before .before .enum-told .given .1)) (transforms-limited (a .t .now) (a .sort) (a .op) (c .before .before .before .before .before .before .before .before .before .before .before .pre .1 .2) (c .before .before .before .before .before .before .before .before .before .before .before .pre .1 .1) (c .before .before .before .before .before .before .before .before .before .before .before .pre .1 .3)) (transforms-bytes (a .t .now) (a .sort) (a .op) (c .before .before .before .before .before .before .before .before .before .before .before .pre .1 .2) (c .before .before .before .before .before .before .before .before .before .before .before .pre .1 .1) (c .before .before .before .before .before .before .before .before .before .before .before .pre .1 .3)) (emits-first (transformKind (a .sort) (a .op) (getD (a .f .now) 0 0)) (c .before .before .transform-whole .ensures))
 
-transform-same-length-5 : (t : ℕ) → transform-lts.Need-same-length-5 (
-  step-reads.Asked,
-  step-reads.Learnt,
-  transform-whole-reads.Asked,
-  transform-whole-reads.Learnt,
-  transform-literal-reads.Asked,
-  transform-literal-reads.Learnt,
-  transform-below t,
-  transform.Post,
-  is-done-reads.Asked,
-  is-done-reads.Learnt,
-  step-of-reads.Asked,
-  step-of-reads.Learnt,
-  formula-at-reads.Asked,
-  formula-at-reads.Learnt,
-  behind-reads.Asked,
-  behind-reads.Learnt,
-) (transform-at t) transform.Post
+transform-same-length-5 : (t : ℕ) → transform-lts.Need-same-length-5 (transform-claims t) (transform-at t) transform.Post
 transform-same-length-5 t c = search needs
 
-transform-returns-5 : (t : ℕ) → transform-lts.Need-returns-5 (
-  step-reads.Asked,
-  step-reads.Learnt,
-  transform-whole-reads.Asked,
-  transform-whole-reads.Learnt,
-  transform-literal-reads.Asked,
-  transform-literal-reads.Learnt,
-  transform-below t,
-  transform.Post,
-  is-done-reads.Asked,
-  is-done-reads.Learnt,
-  step-of-reads.Asked,
-  step-of-reads.Learnt,
-  formula-at-reads.Asked,
-  formula-at-reads.Learnt,
-  behind-reads.Asked,
-  behind-reads.Learnt,
-) (transform-at t) transform.Post
+transform-returns-5 : (t : ℕ) → transform-lts.Need-returns-5 (transform-claims t) (transform-at t) transform.Post
 transform-returns-5 t c = c .before .before .transform-literal .ensures
 
-transform-same-length-6 : (t : ℕ) → transform-lts.Need-same-length-6 (
-  step-reads.Asked,
-  step-reads.Learnt,
-  transform-whole-reads.Asked,
-  transform-whole-reads.Learnt,
-  transform-literal-reads.Asked,
-  transform-literal-reads.Learnt,
-  transform-below t,
-  transform.Post,
-  is-done-reads.Asked,
-  is-done-reads.Learnt,
-  step-of-reads.Asked,
-  step-of-reads.Learnt,
-  formula-at-reads.Asked,
-  formula-at-reads.Learnt,
-  behind-reads.Asked,
-  behind-reads.Learnt,
-) (transform-at t) transform.Post
+transform-same-length-6 : (t : ℕ) → transform-lts.Need-same-length-6 (transform-claims t) (transform-at t) transform.Post
 transform-same-length-6 t c = search needs
 
-transform-returns-6 : (t : ℕ) → transform-lts.Need-returns-6 (
-  step-reads.Asked,
-  step-reads.Learnt,
-  transform-whole-reads.Asked,
-  transform-whole-reads.Learnt,
-  transform-literal-reads.Asked,
-  transform-literal-reads.Learnt,
-  transform-below t,
-  transform.Post,
-  is-done-reads.Asked,
-  is-done-reads.Learnt,
-  step-of-reads.Asked,
-  step-of-reads.Learnt,
-  formula-at-reads.Asked,
-  formula-at-reads.Learnt,
-  behind-reads.Asked,
-  behind-reads.Learnt,
-) (transform-at t) transform.Post
+transform-returns-6 : (t : ℕ) → transform-lts.Need-returns-6 (transform-claims t) (transform-at t) transform.Post
 transform-returns-6 t c = let a = c .before .before .before .before .before .before .before .before .before .before .before .before .before .before .before .before .before .before .before .before .args in one-runs (a .sort) (emitTransform (a .sort) (opOf (a .op) (a .t .now))) (transforms (a .sort) (opOf (a .op) (a .t .now))) (transformKind (a .sort) (a .op)) (transform-laws (a .sort) (a .op) (a .t .now)) (treeOf (a .sort) (a .f .now)) (viewed (c .before .before .before .before .before .before .before .before .before .before .before .before .before .before .before .before .before .before .before .before .pre .1 .1) _ _ (c .before .before .before .before .before .before .before .before .before .before .before .before .before .before .before .step .ensures) (c .before .before .before .before .before .before .before .before .before .before .before .before .before .enum-told2 .given .1)) (transforms-limited (a .t .now) (a .sort) (a .op) (c .before .before .before .before .before .before .before .before .before .before .before .before .before .before .before .before .before .before .before .before .pre .1 .2) (c .before .before .before .before .before .before .before .before .before .before .before .before .before .before .before .before .before .before .before .before .pre .1 .1) (c .before .before .before .before .before .before .before .before .before .before .before .before .before .before .before .before .before .before .before .before .pre .1 .3)) (transforms-bytes (a .t .now) (a .sort) (a .op) (c .before .before .before .before .before .before .before .before .before .before .before .before .before .before .before .before .before .before .before .before .pre .1 .2) (c .before .before .before .before .before .before .before .before .before .before .before .before .before .before .before .before .before .before .before .before .pre .1 .1) (c .before .before .before .before .before .before .before .before .before .before .before .before .before .before .before .before .before .before .before .before .pre .1 .3)) (part-runs (a .sort) (emitTransform (a .sort) (opOf (a .op) (a .t .now))) (rest-of (a .f .now) 1) (c .before .before .before .before .before .before .before .before .before .transform .ensures)) (sym (c .before .before .before .before .before .before .is-done .ensures) ∙ not-false _ (c .before .before .before .before .before .if1 .left)) (c .before .before .before .step-of .ensures) (emits-first (transformKind (a .sort) (a .op) (getD (a .f .now) 0 0)) (c .before .before .transform-whole2 .ensures))
 
-transform-same-length-7 : (t : ℕ) → transform-lts.Need-same-length-7 (
-  step-reads.Asked,
-  step-reads.Learnt,
-  transform-whole-reads.Asked,
-  transform-whole-reads.Learnt,
-  transform-literal-reads.Asked,
-  transform-literal-reads.Learnt,
-  transform-below t,
-  transform.Post,
-  is-done-reads.Asked,
-  is-done-reads.Learnt,
-  step-of-reads.Asked,
-  step-of-reads.Learnt,
-  formula-at-reads.Asked,
-  formula-at-reads.Learnt,
-  behind-reads.Asked,
-  behind-reads.Learnt,
-) (transform-at t) transform.Post
+transform-same-length-7 : (t : ℕ) → transform-lts.Need-same-length-7 (transform-claims t) (transform-at t) transform.Post
 transform-same-length-7 t c = search needs
 
-transform-returns-7 : (t : ℕ) → transform-lts.Need-returns-7 (
-  step-reads.Asked,
-  step-reads.Learnt,
-  transform-whole-reads.Asked,
-  transform-whole-reads.Learnt,
-  transform-literal-reads.Asked,
-  transform-literal-reads.Learnt,
-  transform-below t,
-  transform.Post,
-  is-done-reads.Asked,
-  is-done-reads.Learnt,
-  step-of-reads.Asked,
-  step-of-reads.Learnt,
-  formula-at-reads.Asked,
-  formula-at-reads.Learnt,
-  behind-reads.Asked,
-  behind-reads.Learnt,
-) (transform-at t) transform.Post
+transform-returns-7 : (t : ℕ) → transform-lts.Need-returns-7 (transform-claims t) (transform-at t) transform.Post
 transform-returns-7 t c = let a = c .before .before .before .before .before .before .before .before .before .before .before .before .before .before .before .before .before .before .before .before .before .before .before .before .before .before .before .before .before .args in two-runs (a .sort) (emitTransform (a .sort) (opOf (a .op) (a .t .now))) (transforms (a .sort) (opOf (a .op) (a .t .now))) (transformKind (a .sort) (a .op)) (transform-laws (a .sort) (a .op) (a .t .now)) (treeOf (a .sort) (a .f .now)) (viewed (c .before .before .before .before .before .before .before .before .before .before .before .before .before .before .before .before .before .before .before .before .before .before .before .before .before .before .before .before .before .pre .1 .1) _ _ (c .before .before .before .before .before .before .before .before .before .before .before .before .before .before .before .before .before .before .before .before .before .before .before .before .step .ensures) (c .before .before .before .before .before .before .before .before .before .before .before .before .before .before .before .before .before .before .before .before .before .before .enum-told3 .given .1)) (transforms-limited (a .t .now) (a .sort) (a .op) (c .before .before .before .before .before .before .before .before .before .before .before .before .before .before .before .before .before .before .before .before .before .before .before .before .before .before .before .before .before .pre .1 .2) (c .before .before .before .before .before .before .before .before .before .before .before .before .before .before .before .before .before .before .before .before .before .before .before .before .before .before .before .before .before .pre .1 .1) (c .before .before .before .before .before .before .before .before .before .before .before .before .before .before .before .before .before .before .before .before .before .before .before .before .before .before .before .before .before .pre .1 .3)) (transforms-bytes (a .t .now) (a .sort) (a .op) (c .before .before .before .before .before .before .before .before .before .before .before .before .before .before .before .before .before .before .before .before .before .before .before .before .before .before .before .before .before .pre .1 .2) (c .before .before .before .before .before .before .before .before .before .before .before .before .before .before .before .before .before .before .before .before .before .before .before .before .before .before .before .before .before .pre .1 .1) (c .before .before .before .before .before .before .before .before .before .before .before .before .before .before .before .before .before .before .before .before .before .before .before .before .before .before .before .before .before .pre .1 .3)) (part-runs (a .sort) (emitTransform (a .sort) (opOf (a .op) (a .t .now))) (c .before .before .before .before .before .before .before .before .before .before .before .before .before .before .before .before .before .before .before .before .before .formula-at .ensures) (c .before .before .before .before .before .before .before .before .before .before .before .before .before .before .before .before .before .before .transform2 .ensures)) (sym (c .before .before .before .before .before .before .before .before .before .before .before .before .before .before .before .is-done2 .ensures) ∙ not-false _ (c .before .before .before .before .before .before .before .before .before .before .before .before .before .before .if2 .left)) (part-runs (a .sort) (emitTransform (a .sort) (opOf (a .op) (a .t .now))) (c .before .before .before .before .before .before .before .before .before .before .before .before .before .behind .ensures ∙ behind (a .f .now) (c .before .before .before .before .before .before .before .before .before .before .before .before .before .before .before .before .before .before .before .before .before .formula-at .ensures)) (c .before .before .before .before .before .before .before .before .before .before .transform3 .ensures)) (sym (c .before .before .before .before .before .before .before .is-done3 .ensures) ∙ not-false _ (c .before .before .before .before .before .before .if3 .left)) (c .before .before .before .before .before .step-of2 .ensures) (c .before .before .before .step-of3 .ensures) (emits-first (transformKind (a .sort) (a .op) (getD (a .f .now) 0 0)) (c .before .before .transform-whole3 .ensures))
 
-transform-returns-8 : (t : ℕ) → transform-lts.Need-returns-8 (
-  step-reads.Asked,
-  step-reads.Learnt,
-  transform-whole-reads.Asked,
-  transform-whole-reads.Learnt,
-  transform-literal-reads.Asked,
-  transform-literal-reads.Learnt,
-  transform-below t,
-  transform.Post,
-  is-done-reads.Asked,
-  is-done-reads.Learnt,
-  step-of-reads.Asked,
-  step-of-reads.Learnt,
-  formula-at-reads.Asked,
-  formula-at-reads.Learnt,
-  behind-reads.Asked,
-  behind-reads.Learnt,
-) (transform-at t) transform.Post
+transform-returns-8 : (t : ℕ) → transform-lts.Need-returns-8 (transform-claims t) (transform-at t) transform.Post
 transform-returns-8 t c = let a = c .before .before .before .before .before .before .before .args in not-stuck (treeOf (a .sort) (a .f .now)) _ (viewed (c .before .before .before .before .before .before .before .pre .1 .1) _ _ (c .before .before .step .ensures) (c .enum-told4 .given .1)) refl
 
 pub +transform-spec : {M : Type 1} → statement M
-+transform-spec = close μ-transform λ t. transform-lts.spec (
-  step-reads.Asked,
-  step-reads.Learnt,
-  transform-whole-reads.Asked,
-  transform-whole-reads.Learnt,
-  transform-literal-reads.Asked,
-  transform-literal-reads.Learnt,
-  transform-below t,
-  transform.Post,
-  is-done-reads.Asked,
-  is-done-reads.Learnt,
-  step-of-reads.Asked,
-  step-of-reads.Learnt,
-  formula-at-reads.Asked,
-  formula-at-reads.Learnt,
-  behind-reads.Asked,
-  behind-reads.Learnt,
-)
-    (transform-at t)
-    transform.Post
++transform-spec = close μ-transform λ t. transform-lts.spec (transform-claims t) (transform-at t) transform.Post
     (transform-step-requires t)
     (transform-enum-told t)
     (transform-transform-whole-requires t)

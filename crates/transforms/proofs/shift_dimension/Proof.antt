@@ -6,7 +6,7 @@ use Prim.Native.Nat.{compare, Ordering·lt}
 use mathlib.Core.Path.{refl, sym, _∙_}
 use borrow.Author.Tests.{not-true, not-false}
 use Rattle.formula.specs.declared.Sort.the-variants.{Intervals}
-use Rattle.formula.specs.declared.Op.the-variants.{DShift}
+use Rattle.operations.specs.declared.Op.the-variants.{DShift}
 use Rattle.formula.specs.Operations.{shift}
 use Rattle.formula.proofs.Compare.{compare-lt}
 use Rattle.calculus.specs.Judgement.{lt, le}

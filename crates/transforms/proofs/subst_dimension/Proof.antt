@@ -6,7 +6,7 @@ use Prim.Native.Nat.{Ordering·lt, Ordering·gt}
 use mathlib.Core.Path.{refl, sym, _∙_}
 use borrow.Author.Tests.{not-true, not-false}
 use Rattle.formula.specs.declared.Sort.the-variants.{Intervals}
-use Rattle.formula.specs.declared.Op.the-variants.{DSubst}
+use Rattle.operations.specs.declared.Op.the-variants.{DSubst}
 use Rattle.formula.specs.Operations.{subst}
 use Rattle.formula.proofs.Compare.{compare-lt, compare-gt}
 use Rattle.calculus.specs.Judgement.{lt}

@@ -2,8 +2,8 @@ use borrow.Author.Needs.{needs}
 use Rattle.contexts.proofs.lefts.leave.Statement.{statement}
 use Rattle.contexts.proofs.lefts.leave.Tie as tie
 use native.Mathlib.Omega.{arith}
-use mathlib.Core.Path.{refl, sym, ap, _∙_}
-use lib.ListN.{length, length-drop}
+use mathlib.Core.Path.{sym, ap}
+use lib.ListN.{length}
 use lib.Seq.{length-take-le, length-sets}
 use Rattle.contexts.proofs.LeftLaws.{cut-length, leave-writes}
 use lib.ListN.{length, take}

@@ -2,7 +2,7 @@ use borrow.Author.Needs.{needs}
 use Rattle.contexts.proofs.lefts.left_out.Statement.{statement}
 use Rattle.contexts.proofs.lefts.left_out.Tie as tie
 use native.Mathlib.Omega.{arith}
-use mathlib.Core.Path.{refl, sym, ap, _∙_}
+use mathlib.Core.Path.{sym}
 use lib.Seq.{length-take-le}
 use Rattle.contexts.proofs.ContextLaws.{context-short}
 use Rattle.contexts.proofs.LeftLaws.{at-end, cut-short, at-leaves}

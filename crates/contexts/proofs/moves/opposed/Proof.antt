@@ -2,7 +2,7 @@ use borrow.Author.Needs.{needs}
 use Rattle.contexts.proofs.moves.opposed.Statement.{statement}
 use Rattle.contexts.proofs.moves.opposed.Tie as tie
 use native.Mathlib.Omega.{arith}
-use mathlib.Core.Path.{refl, sym, ap, _∙_}
+use mathlib.Core.Path.{refl}
 use Rattle.contexts.proofs.MoveLaws.{face-some, constant-free, compound-free, opposite, opposite-known, opposite-clash, opposite-free}
 
 shared-slice-read-b : tie.Need-shared-slice-read-b

@@ -13,9 +13,8 @@ use Rattle.contexts.proofs.takes.+take.{statement}
 use Rattle.contexts.proofs.takes.+take.Tie.{close}
 use native.Mathlib.Omega.{arith}
 use borrow.Author.Needs.{needs}
-use mathlib.Core.Path.{refl, sym, ap, _∙_}
+use mathlib.Core.Path.{sym, _∙_}
 use borrow.Author.Tests.{not-true, not-false}
-use lib.ListN.{length}
 use Rattle.steps.proofs.RunLaws.{runs-led}
 use Rattle.contexts.proofs.TakeLaws.{take-short, take-here, rest-cut, rest-without, take-stop, take-up}
 
@@ -28,503 +27,102 @@ take-at t = and 4 take-kinds.ps (is 4 take-kinds.ps μ-take t) take.Pre
 abbrev take-below : ℕ → In 4 take-kinds.ps
 take-below t = and 4 take-kinds.ps (falls 4 take-kinds.ps _<_ μ-take t) take.Pre
 
-take-count-requires : (t : ℕ) → take-lts.Need-count-requires (
-  count-reads.Asked,
-  count-reads.Learnt,
-  emit-reads.Asked,
-  emit-reads.Learnt,
-  formula-at-reads.Asked,
-  formula-at-reads.Learnt,
-  take-below t,
-  take.Post,
-  is-done-reads.Asked,
-  is-done-reads.Learnt,
-  step-of-reads.Asked,
-  step-of-reads.Learnt,
-) (take-at t) take.Post
+-- What take is told of the functions that it calls.
+abbrev take-claims : ℕ → take-lts.Claims
+take-claims t = (count-reads.Asked, count-reads.Learnt, emit-reads.Asked, emit-reads.Learnt, formula-at-reads.Asked, formula-at-reads.Learnt, take-below t, take.Post, is-done-reads.Asked, is-done-reads.Learnt, step-of-reads.Asked, step-of-reads.Learnt)
+
+take-count-requires : (t : ℕ) → take-lts.Need-count-requires (take-claims t) (take-at t) take.Post
 take-count-requires t c κs = tt
 
-take-slice-aggregate-emit : (t : ℕ) → take-lts.Need-slice-aggregate-emit (
-  count-reads.Asked,
-  count-reads.Learnt,
-  emit-reads.Asked,
-  emit-reads.Learnt,
-  formula-at-reads.Asked,
-  formula-at-reads.Learnt,
-  take-below t,
-  take.Post,
-  is-done-reads.Asked,
-  is-done-reads.Learnt,
-  step-of-reads.Asked,
-  step-of-reads.Learnt,
-) (take-at t) take.Post
+take-slice-aggregate-emit : (t : ℕ) → take-lts.Need-slice-aggregate-emit (take-claims t) (take-at t) take.Post
 take-slice-aggregate-emit t c = search needs
 
-take-sub-count : (t : ℕ) → take-lts.Need-sub-count (
-  count-reads.Asked,
-  count-reads.Learnt,
-  emit-reads.Asked,
-  emit-reads.Learnt,
-  formula-at-reads.Asked,
-  formula-at-reads.Learnt,
-  take-below t,
-  take.Post,
-  is-done-reads.Asked,
-  is-done-reads.Learnt,
-  step-of-reads.Asked,
-  step-of-reads.Learnt,
-) (take-at t) take.Post
+take-sub-count : (t : ℕ) → take-lts.Need-sub-count (take-claims t) (take-at t) take.Post
 take-sub-count t c = omega (arith, c .before .before .before .before .before .before .before .before .pre .1 .1 .inside)
 
-take-count-requires-2 : (t : ℕ) → take-lts.Need-count-requires-2 (
-  count-reads.Asked,
-  count-reads.Learnt,
-  emit-reads.Asked,
-  emit-reads.Learnt,
-  formula-at-reads.Asked,
-  formula-at-reads.Learnt,
-  take-below t,
-  take.Post,
-  is-done-reads.Asked,
-  is-done-reads.Learnt,
-  step-of-reads.Asked,
-  step-of-reads.Learnt,
-) (take-at t) take.Post
+take-count-requires-2 : (t : ℕ) → take-lts.Need-count-requires-2 (take-claims t) (take-at t) take.Post
 take-count-requires-2 t c κs = tt
 
-take-slice-aggregate-emit-2 : (t : ℕ) → take-lts.Need-slice-aggregate-emit-2 (
-  count-reads.Asked,
-  count-reads.Learnt,
-  emit-reads.Asked,
-  emit-reads.Learnt,
-  formula-at-reads.Asked,
-  formula-at-reads.Learnt,
-  take-below t,
-  take.Post,
-  is-done-reads.Asked,
-  is-done-reads.Learnt,
-  step-of-reads.Asked,
-  step-of-reads.Learnt,
-) (take-at t) take.Post
+take-slice-aggregate-emit-2 : (t : ℕ) → take-lts.Need-slice-aggregate-emit-2 (take-claims t) (take-at t) take.Post
 take-slice-aggregate-emit-2 t c = search needs
 
-take-emit-requires : (t : ℕ) → take-lts.Need-emit-requires (
-  count-reads.Asked,
-  count-reads.Learnt,
-  emit-reads.Asked,
-  emit-reads.Learnt,
-  formula-at-reads.Asked,
-  formula-at-reads.Learnt,
-  take-below t,
-  take.Post,
-  is-done-reads.Asked,
-  is-done-reads.Learnt,
-  step-of-reads.Asked,
-  step-of-reads.Learnt,
-) (take-at t) take.Post
+take-emit-requires : (t : ℕ) → take-lts.Need-emit-requires (take-claims t) (take-at t) take.Post
 take-emit-requires t c κs = (c .before .before .before .before .before .before .before .before .before .before .pre .1 .0, take-short (c .before .before .before .before .before .before .before .before .before .before .pre .1 .1) (c .before .before .before .count .ensures) (c .before .count2 .ensures))
 
-take-same-length : (t : ℕ) → take-lts.Need-same-length (
-  count-reads.Asked,
-  count-reads.Learnt,
-  emit-reads.Asked,
-  emit-reads.Learnt,
-  formula-at-reads.Asked,
-  formula-at-reads.Learnt,
-  take-below t,
-  take.Post,
-  is-done-reads.Asked,
-  is-done-reads.Learnt,
-  step-of-reads.Asked,
-  step-of-reads.Learnt,
-) (take-at t) take.Post
+take-same-length : (t : ℕ) → take-lts.Need-same-length (take-claims t) (take-at t) take.Post
 take-same-length t c = search needs
 
-take-returns : (t : ℕ) → take-lts.Need-returns (
-  count-reads.Asked,
-  count-reads.Learnt,
-  emit-reads.Asked,
-  emit-reads.Learnt,
-  formula-at-reads.Asked,
-  formula-at-reads.Learnt,
-  take-below t,
-  take.Post,
-  is-done-reads.Asked,
-  is-done-reads.Learnt,
-  step-of-reads.Asked,
-  step-of-reads.Learnt,
-) (take-at t) take.Post
+take-returns : (t : ℕ) → take-lts.Need-returns (take-claims t) (take-at t) take.Post
 take-returns t c = take-here (c .before .before .before .before .before .before .before .before .before .before .before .before .before .pre .1 .1) (c .before .before .before .before .before .before .before .before .if1 .taken) (c .before .before .before .before .before .before .count .ensures) (c .before .before .before .before .count2 .ensures) (c .before .before .emit .ensures)
 
-take-formula-at-requires : (t : ℕ) → take-lts.Need-formula-at-requires (
-  count-reads.Asked,
-  count-reads.Learnt,
-  emit-reads.Asked,
-  emit-reads.Learnt,
-  formula-at-reads.Asked,
-  formula-at-reads.Learnt,
-  take-below t,
-  take.Post,
-  is-done-reads.Asked,
-  is-done-reads.Learnt,
-  step-of-reads.Asked,
-  step-of-reads.Learnt,
-) (take-at t) take.Post
+take-formula-at-requires : (t : ℕ) → take-lts.Need-formula-at-requires (take-claims t) (take-at t) take.Post
 take-formula-at-requires t c κs = tt
 
-take-sub-take : (t : ℕ) → take-lts.Need-sub-take (
-  count-reads.Asked,
-  count-reads.Learnt,
-  emit-reads.Asked,
-  emit-reads.Learnt,
-  formula-at-reads.Asked,
-  formula-at-reads.Learnt,
-  take-below t,
-  take.Post,
-  is-done-reads.Asked,
-  is-done-reads.Learnt,
-  step-of-reads.Asked,
-  step-of-reads.Learnt,
-) (take-at t) take.Post
+take-sub-take : (t : ℕ) → take-lts.Need-sub-take (take-claims t) (take-at t) take.Post
 take-sub-take t c = omega (arith, c .before .before .if1 .left)
 
-take-sub-take-2 : (t : ℕ) → take-lts.Need-sub-take-2 (
-  count-reads.Asked,
-  count-reads.Learnt,
-  emit-reads.Asked,
-  emit-reads.Learnt,
-  formula-at-reads.Asked,
-  formula-at-reads.Learnt,
-  take-below t,
-  take.Post,
-  is-done-reads.Asked,
-  is-done-reads.Learnt,
-  step-of-reads.Asked,
-  step-of-reads.Learnt,
-) (take-at t) take.Post
+take-sub-take-2 : (t : ℕ) → take-lts.Need-sub-take-2 (take-claims t) (take-at t) take.Post
 take-sub-take-2 t c = omega (arith, c .before .before .before .before .before .before .before .pre .1 .1 .inside)
 
-take-sub-take-3 : (t : ℕ) → take-lts.Need-sub-take-3 (
-  count-reads.Asked,
-  count-reads.Learnt,
-  emit-reads.Asked,
-  emit-reads.Learnt,
-  formula-at-reads.Asked,
-  formula-at-reads.Learnt,
-  take-below t,
-  take.Post,
-  is-done-reads.Asked,
-  is-done-reads.Learnt,
-  step-of-reads.Asked,
-  step-of-reads.Learnt,
-) (take-at t) take.Post
+take-sub-take-3 : (t : ℕ) → take-lts.Need-sub-take-3 (take-claims t) (take-at t) take.Post
 take-sub-take-3 t c = rest-cut (c .before .before .before .before .before .before .before .pre .1 .1) (c .before .before .if1 .left) (c .before .formula-at .ensures) .0
 
-take-part-take-start : (t : ℕ) → take-lts.Need-part-take-start (
-  count-reads.Asked,
-  count-reads.Learnt,
-  emit-reads.Asked,
-  emit-reads.Learnt,
-  formula-at-reads.Asked,
-  formula-at-reads.Learnt,
-  take-below t,
-  take.Post,
-  is-done-reads.Asked,
-  is-done-reads.Learnt,
-  step-of-reads.Asked,
-  step-of-reads.Learnt,
-) (take-at t) take.Post
+take-part-take-start : (t : ℕ) → take-lts.Need-part-take-start (take-claims t) (take-at t) take.Post
 take-part-take-start t c = rest-cut (c .before .before .before .before .before .before .before .pre .1 .1) (c .before .before .if1 .left) (c .before .formula-at .ensures) .0
 
-take-part-take-end : (t : ℕ) → take-lts.Need-part-take-end (
-  count-reads.Asked,
-  count-reads.Learnt,
-  emit-reads.Asked,
-  emit-reads.Learnt,
-  formula-at-reads.Asked,
-  formula-at-reads.Learnt,
-  take-below t,
-  take.Post,
-  is-done-reads.Asked,
-  is-done-reads.Learnt,
-  step-of-reads.Asked,
-  step-of-reads.Learnt,
-) (take-at t) take.Post
+take-part-take-end : (t : ℕ) → take-lts.Need-part-take-end (take-claims t) (take-at t) take.Post
 take-part-take-end t c = search needs
 
-take-sub-take-4 : (t : ℕ) → take-lts.Need-sub-take-4 (
-  count-reads.Asked,
-  count-reads.Learnt,
-  emit-reads.Asked,
-  emit-reads.Learnt,
-  formula-at-reads.Asked,
-  formula-at-reads.Learnt,
-  take-below t,
-  take.Post,
-  is-done-reads.Asked,
-  is-done-reads.Learnt,
-  step-of-reads.Asked,
-  step-of-reads.Learnt,
-) (take-at t) take.Post
+take-sub-take-4 : (t : ℕ) → take-lts.Need-sub-take-4 (take-claims t) (take-at t) take.Post
 take-sub-take-4 t c = rest-cut (c .before .before .before .before .before .before .before .before .pre .1 .1) (c .before .before .before .if1 .left) (c .before .before .formula-at .ensures) .1
 
-take-part-take-start-2 : (t : ℕ) → take-lts.Need-part-take-start-2 (
-  count-reads.Asked,
-  count-reads.Learnt,
-  emit-reads.Asked,
-  emit-reads.Learnt,
-  formula-at-reads.Asked,
-  formula-at-reads.Learnt,
-  take-below t,
-  take.Post,
-  is-done-reads.Asked,
-  is-done-reads.Learnt,
-  step-of-reads.Asked,
-  step-of-reads.Learnt,
-) (take-at t) take.Post
+take-part-take-start-2 : (t : ℕ) → take-lts.Need-part-take-start-2 (take-claims t) (take-at t) take.Post
 take-part-take-start-2 t c = rest-cut (c .before .before .before .before .before .before .before .before .pre .1 .1) (c .before .before .before .if1 .left) (c .before .before .formula-at .ensures) .1
 
-take-part-take-end-2 : (t : ℕ) → take-lts.Need-part-take-end-2 (
-  count-reads.Asked,
-  count-reads.Learnt,
-  emit-reads.Asked,
-  emit-reads.Learnt,
-  formula-at-reads.Asked,
-  formula-at-reads.Learnt,
-  take-below t,
-  take.Post,
-  is-done-reads.Asked,
-  is-done-reads.Learnt,
-  step-of-reads.Asked,
-  step-of-reads.Learnt,
-) (take-at t) take.Post
+take-part-take-end-2 : (t : ℕ) → take-lts.Need-part-take-end-2 (take-claims t) (take-at t) take.Post
 take-part-take-end-2 t c = search needs
 
-take-take-requires : (t : ℕ) → take-lts.Need-take-requires (
-  count-reads.Asked,
-  count-reads.Learnt,
-  emit-reads.Asked,
-  emit-reads.Learnt,
-  formula-at-reads.Asked,
-  formula-at-reads.Learnt,
-  take-below t,
-  take.Post,
-  is-done-reads.Asked,
-  is-done-reads.Learnt,
-  step-of-reads.Asked,
-  step-of-reads.Learnt,
-) (take-at t) take.Post
+take-take-requires : (t : ℕ) → take-lts.Need-take-requires (take-claims t) (take-at t) take.Post
 take-take-requires t c κs = (omega (arith, c .before .before .before .before .before .before .before .before .before .pre .0, c .before .before .before .before .if1 .left), (c .before .before .before .before .before .before .before .before .before .pre .1 .0, rest-without (c .before .before .before .before .before .before .before .before .before .pre .1 .1) (c .before .before .before .before .if1 .left) (c .before .before .before .formula-at .ensures)))
 
-take-is-done-requires : (t : ℕ) → take-lts.Need-is-done-requires (
-  count-reads.Asked,
-  count-reads.Learnt,
-  emit-reads.Asked,
-  emit-reads.Learnt,
-  formula-at-reads.Asked,
-  formula-at-reads.Learnt,
-  take-below t,
-  take.Post,
-  is-done-reads.Asked,
-  is-done-reads.Learnt,
-  step-of-reads.Asked,
-  step-of-reads.Learnt,
-) (take-at t) take.Post
+take-is-done-requires : (t : ℕ) → take-lts.Need-is-done-requires (take-claims t) (take-at t) take.Post
 take-is-done-requires t c κs = tt
 
-take-same-length-2 : (t : ℕ) → take-lts.Need-same-length-2 (
-  count-reads.Asked,
-  count-reads.Learnt,
-  emit-reads.Asked,
-  emit-reads.Learnt,
-  formula-at-reads.Asked,
-  formula-at-reads.Learnt,
-  take-below t,
-  take.Post,
-  is-done-reads.Asked,
-  is-done-reads.Learnt,
-  step-of-reads.Asked,
-  step-of-reads.Learnt,
-) (take-at t) take.Post
+take-same-length-2 : (t : ℕ) → take-lts.Need-same-length-2 (take-claims t) (take-at t) take.Post
 take-same-length-2 t c = search needs
 
-take-returns-2 : (t : ℕ) → take-lts.Need-returns-2 (
-  count-reads.Asked,
-  count-reads.Learnt,
-  emit-reads.Asked,
-  emit-reads.Learnt,
-  formula-at-reads.Asked,
-  formula-at-reads.Learnt,
-  take-below t,
-  take.Post,
-  is-done-reads.Asked,
-  is-done-reads.Learnt,
-  step-of-reads.Asked,
-  step-of-reads.Learnt,
-) (take-at t) take.Post
+take-returns-2 : (t : ℕ) → take-lts.Need-returns-2 (take-claims t) (take-at t) take.Post
 take-returns-2 t c = take-stop (c .before .before .before .before .before .before .before .before .before .before .before .before .before .before .pre .1 .1) (c .before .before .before .before .before .before .before .before .before .if1 .left) (c .before .before .before .before .before .before .before .before .formula-at .ensures) (c .before .before .before .before .take .ensures) (sym (c .before .is-done .ensures) ∙ not-true _ (c .if2 .taken))
 
-take-step-of-requires : (t : ℕ) → take-lts.Need-step-of-requires (
-  count-reads.Asked,
-  count-reads.Learnt,
-  emit-reads.Asked,
-  emit-reads.Learnt,
-  formula-at-reads.Asked,
-  formula-at-reads.Learnt,
-  take-below t,
-  take.Post,
-  is-done-reads.Asked,
-  is-done-reads.Learnt,
-  step-of-reads.Asked,
-  step-of-reads.Learnt,
-) (take-at t) take.Post
+take-step-of-requires : (t : ℕ) → take-lts.Need-step-of-requires (take-claims t) (take-at t) take.Post
 take-step-of-requires t c κs = tt
 
-take-count-requires-3 : (t : ℕ) → take-lts.Need-count-requires-3 (
-  count-reads.Asked,
-  count-reads.Learnt,
-  emit-reads.Asked,
-  emit-reads.Learnt,
-  formula-at-reads.Asked,
-  formula-at-reads.Learnt,
-  take-below t,
-  take.Post,
-  is-done-reads.Asked,
-  is-done-reads.Learnt,
-  step-of-reads.Asked,
-  step-of-reads.Learnt,
-) (take-at t) take.Post
+take-count-requires-3 : (t : ℕ) → take-lts.Need-count-requires-3 (take-claims t) (take-at t) take.Post
 take-count-requires-3 t c κs = tt
 
-take-slice-aggregate-emit-3 : (t : ℕ) → take-lts.Need-slice-aggregate-emit-3 (
-  count-reads.Asked,
-  count-reads.Learnt,
-  emit-reads.Asked,
-  emit-reads.Learnt,
-  formula-at-reads.Asked,
-  formula-at-reads.Learnt,
-  take-below t,
-  take.Post,
-  is-done-reads.Asked,
-  is-done-reads.Learnt,
-  step-of-reads.Asked,
-  step-of-reads.Learnt,
-) (take-at t) take.Post
+take-slice-aggregate-emit-3 : (t : ℕ) → take-lts.Need-slice-aggregate-emit-3 (take-claims t) (take-at t) take.Post
 take-slice-aggregate-emit-3 t c = search needs
 
-take-sub-count-2 : (t : ℕ) → take-lts.Need-sub-count-2 (
-  count-reads.Asked,
-  count-reads.Learnt,
-  emit-reads.Asked,
-  emit-reads.Learnt,
-  formula-at-reads.Asked,
-  formula-at-reads.Learnt,
-  take-below t,
-  take.Post,
-  is-done-reads.Asked,
-  is-done-reads.Learnt,
-  step-of-reads.Asked,
-  step-of-reads.Learnt,
-) (take-at t) take.Post
+take-sub-count-2 : (t : ℕ) → take-lts.Need-sub-count-2 (take-claims t) (take-at t) take.Post
 take-sub-count-2 t c = omega (arith, c .before .before .before .before .before .before .before .before .before .before .before .before .before .before .before .before .before .before .pre .1 .1 .inside)
 
-take-count-requires-4 : (t : ℕ) → take-lts.Need-count-requires-4 (
-  count-reads.Asked,
-  count-reads.Learnt,
-  emit-reads.Asked,
-  emit-reads.Learnt,
-  formula-at-reads.Asked,
-  formula-at-reads.Learnt,
-  take-below t,
-  take.Post,
-  is-done-reads.Asked,
-  is-done-reads.Learnt,
-  step-of-reads.Asked,
-  step-of-reads.Learnt,
-) (take-at t) take.Post
+take-count-requires-4 : (t : ℕ) → take-lts.Need-count-requires-4 (take-claims t) (take-at t) take.Post
 take-count-requires-4 t c κs = tt
 
-take-slice-aggregate-emit-4 : (t : ℕ) → take-lts.Need-slice-aggregate-emit-4 (
-  count-reads.Asked,
-  count-reads.Learnt,
-  emit-reads.Asked,
-  emit-reads.Learnt,
-  formula-at-reads.Asked,
-  formula-at-reads.Learnt,
-  take-below t,
-  take.Post,
-  is-done-reads.Asked,
-  is-done-reads.Learnt,
-  step-of-reads.Asked,
-  step-of-reads.Learnt,
-) (take-at t) take.Post
+take-slice-aggregate-emit-4 : (t : ℕ) → take-lts.Need-slice-aggregate-emit-4 (take-claims t) (take-at t) take.Post
 take-slice-aggregate-emit-4 t c = search needs
 
-take-emit-requires-2 : (t : ℕ) → take-lts.Need-emit-requires-2 (
-  count-reads.Asked,
-  count-reads.Learnt,
-  emit-reads.Asked,
-  emit-reads.Learnt,
-  formula-at-reads.Asked,
-  formula-at-reads.Learnt,
-  take-below t,
-  take.Post,
-  is-done-reads.Asked,
-  is-done-reads.Learnt,
-  step-of-reads.Asked,
-  step-of-reads.Learnt,
-) (take-at t) take.Post
+take-emit-requires-2 : (t : ℕ) → take-lts.Need-emit-requires-2 (take-claims t) (take-at t) take.Post
 take-emit-requires-2 t c κs = (runs-led (c .before .before .before .before .before .before .before .before .before .before .take .ensures), take-short (c .before .before .before .before .before .before .before .before .before .before .before .before .before .before .before .before .before .before .before .before .pre .1 .1) (c .before .before .before .count3 .ensures) (c .before .count4 .ensures))
 
-take-same-length-3 : (t : ℕ) → take-lts.Need-same-length-3 (
-  count-reads.Asked,
-  count-reads.Learnt,
-  emit-reads.Asked,
-  emit-reads.Learnt,
-  formula-at-reads.Asked,
-  formula-at-reads.Learnt,
-  take-below t,
-  take.Post,
-  is-done-reads.Asked,
-  is-done-reads.Learnt,
-  step-of-reads.Asked,
-  step-of-reads.Learnt,
-) (take-at t) take.Post
+take-same-length-3 : (t : ℕ) → take-lts.Need-same-length-3 (take-claims t) (take-at t) take.Post
 take-same-length-3 t c = search needs
 
-take-returns-3 : (t : ℕ) → take-lts.Need-returns-3 (
-  count-reads.Asked,
-  count-reads.Learnt,
-  emit-reads.Asked,
-  emit-reads.Learnt,
-  formula-at-reads.Asked,
-  formula-at-reads.Learnt,
-  take-below t,
-  take.Post,
-  is-done-reads.Asked,
-  is-done-reads.Learnt,
-  step-of-reads.Asked,
-  step-of-reads.Learnt,
-) (take-at t) take.Post
+take-returns-3 : (t : ℕ) → take-lts.Need-returns-3 (take-claims t) (take-at t) take.Post
 take-returns-3 t c = take-up (c .before .before .before .before .before .before .before .before .before .before .before .before .before .before .before .before .before .before .before .before .before .before .before .pre .1 .1) (c .before .before .before .before .before .before .before .before .before .before .before .before .before .before .before .before .before .before .if1 .left) (c .before .before .before .before .before .before .before .before .before .before .before .before .before .before .before .before .before .formula-at .ensures) (c .before .before .before .before .before .before .before .before .before .before .before .before .before .take .ensures) (sym (c .before .before .before .before .before .before .before .before .before .before .is-done .ensures) ∙ not-false _ (c .before .before .before .before .before .before .before .before .before .if2 .left)) (c .before .before .before .before .before .before .before .step-of .ensures) (c .before .before .before .before .before .before .count3 .ensures) (c .before .before .before .before .count4 .ensures) (c .before .before .emit2 .ensures)
 
 pub +take-spec : {M : Type 1} → statement M
-+take-spec = close μ-take λ t. take-lts.spec (
-  count-reads.Asked,
-  count-reads.Learnt,
-  emit-reads.Asked,
-  emit-reads.Learnt,
-  formula-at-reads.Asked,
-  formula-at-reads.Learnt,
-  take-below t,
-  take.Post,
-  is-done-reads.Asked,
-  is-done-reads.Learnt,
-  step-of-reads.Asked,
-  step-of-reads.Learnt,
-)
-    (take-at t)
-    take.Post
++take-spec = close μ-take λ t. take-lts.spec (take-claims t) (take-at t) take.Post
     (take-count-requires t)
     (take-slice-aggregate-emit t)
     (take-sub-count t)

@@ -5,9 +5,9 @@ use mathlib.Core.Path.{sym, ap, _∙_}
 use Prim.Native.Nat.{ℕ}
 use native.Mathlib.Omega.{arith}
 use Rattle.calculus.specs.Table.{entryOf}
-use Rattle.records.specs.Kinds.{entryAs}
+use Rattle.kinds.specs.Kinds.{entryAs}
 use Rattle.ledger.proofs.PointLaws.{points-entry}
-use Rattle.ledger.proofs.EntryLaws.{listed-same, not-unlisted}
+use Rattle.kinds.proofs.KindLaws.{listed-same, not-unlisted}
 use Rattle.desk.proofs.ClaimLaws.{few-references}
 
 kind-requires : tie.Need-kind-requires

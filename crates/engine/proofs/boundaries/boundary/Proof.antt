@@ -5,7 +5,7 @@ use mathlib.Core.Path.{sym, _∙_}
 use native.Mathlib.Omega.{arith}
 use Rattle.formula.specs.declared.Sort.the-variants.{Intervals}
 use Rattle.calculus.proofs.Fields.{below-each}
-use Rattle.engine.proofs.GateLaws.{one-open}
+use Rattle.replies.proofs.GateLaws.{one-open}
 use Rattle.engine.proofs.SideLaws.{sides-refused}
 
 one-requires : tie.Need-one-requires

@@ -1,7 +1,7 @@
 use borrow.Author.Needs.{needs}
 use Rattle.engine.proofs.boundaries.run.Statement.{statement}
 use Rattle.engine.proofs.boundaries.run.Tie as tie
-use Rattle.engine.proofs.ReplyLaws.{end-inside}
+use Rattle.replies.proofs.ReplyLaws.{end-inside}
 use Rattle.engine.proofs.SideLaws.{both-made}
 
 used-requires : tie.Need-used-requires
@@ -19,8 +19,8 @@ deliver-requires c κs = search needs
 deliver-requires-2 : tie.Need-deliver-requires-2
 deliver-requires-2 c κs = search needs
 
-made-requires : tie.Need-made-requires
-made-requires c κs = search needs
+with-size-requires : tie.Need-with-size-requires
+with-size-requires c κs = search needs
 
 same-length : tie.Need-same-length
 same-length c = search needs
@@ -32,7 +32,7 @@ same-length-3 : tie.Need-same-length-3
 same-length-3 c = search needs
 
 returns : tie.Need-returns
-returns c = let p = c .before .before .before .before .before .before .before .before .before .before .before .before .before .before .before .before .before .before .before .before .before .before .before .before .before .args in both-made (p .r .now) (p .out0 .now) (p .out1 .now) (c .before .before .before .before .before .before .before .before .before .before .before .before .before .before .before .before .before .before .before .before .before .before .before .before .before .pre .0) (c .before .before .before .before .before .before .before .before .before .before .before .before .before .before .before .before .before .before .before .before .before .before .before .before .before .pre .1) (c .before .before .before .before .before .before .before .before .before .before .before .before .before .before .before .before .before .before .before .before .before .before .before .before .before .pre .2 .size) (c .before .before .before .before .before .before .before .before .before .before .before .before .before .before .before .before .before .before .before .before .before .before .before .before .before .pre .2 .sides) (c .before .before .before .before .before .before .before .before .before .before .before .before .before .before .before .before .before .before .before .before .before .before .before .before .before .pre .3) (c .before .before .before .before .before .before .before .before .before .before .before .before .before .before .before .before .before .before .before .before .before .before .before .before .before .pre .4) (c .before .before .before .before .before .before .before .before .before .before .before .before .before .before .before .boundary .ensures) (c .before .before .before .before .before .before .before .before .before .before .before .before .before .before .before .before .before .used .ensures) (c .before .before .before .before .before .before .before .before .before .before .before .ending .ensures) (c .before .before .before .before .before .before .before .deliver .ensures) (c .before .before .before .deliver2 .ensures) (c .made .ensures)
+returns c = let p = c .before .before .before .before .before .before .before .before .before .before .before .before .before .before .before .before .before .before .before .before .before .before .before .before .before .args in both-made (p .r .now) (p .out0 .now) (p .out1 .now) (c .before .before .before .before .before .before .before .before .before .before .before .before .before .before .before .before .before .before .before .before .before .before .before .before .before .pre .0) (c .before .before .before .before .before .before .before .before .before .before .before .before .before .before .before .before .before .before .before .before .before .before .before .before .before .pre .1) (c .before .before .before .before .before .before .before .before .before .before .before .before .before .before .before .before .before .before .before .before .before .before .before .before .before .pre .2 .size) (c .before .before .before .before .before .before .before .before .before .before .before .before .before .before .before .before .before .before .before .before .before .before .before .before .before .pre .2 .sides) (c .before .before .before .before .before .before .before .before .before .before .before .before .before .before .before .before .before .before .before .before .before .before .before .before .before .pre .3) (c .before .before .before .before .before .before .before .before .before .before .before .before .before .before .before .before .before .before .before .before .before .before .before .before .before .pre .4) (c .before .before .before .before .before .before .before .before .before .before .before .before .before .before .before .boundary .ensures) (c .before .before .before .before .before .before .before .before .before .before .before .before .before .before .before .before .before .used .ensures) (c .before .before .before .before .before .before .before .before .before .before .before .ending .ensures) (c .before .before .before .before .before .before .before .deliver .ensures) (c .before .before .before .deliver2 .ensures) (c .with-size .ensures)
 
 pub run-spec : {M : Type 1} → statement M
 run-spec =
@@ -43,7 +43,7 @@ run-spec =
     ending-requires
     deliver-requires
     deliver-requires-2
-    made-requires
+    with-size-requires
     same-length
     same-length-2
     same-length-3

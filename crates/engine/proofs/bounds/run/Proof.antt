@@ -1,7 +1,7 @@
 use borrow.Author.Needs.{needs}
 use Rattle.engine.proofs.bounds.run.Statement.{statement}
 use Rattle.engine.proofs.bounds.run.Tie as tie
-use Rattle.engine.proofs.ReplyLaws.{end-inside}
+use Rattle.replies.proofs.ReplyLaws.{end-inside}
 use Rattle.engine.proofs.BoundLaws.{bounded-replies}
 
 used-requires : tie.Need-used-requires

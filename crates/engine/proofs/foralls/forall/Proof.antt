@@ -6,7 +6,7 @@ use native.Mathlib.Omega.{arith}
 use borrow.Author.Tests.{ltb-true}
 use Rattle.formula.specs.declared.Sort.the-variants.{Faces}
 use Rattle.calculus.proofs.Fields.{below-each}
-use Rattle.engine.proofs.GateLaws.{one-open}
+use Rattle.replies.proofs.GateLaws.{one-open}
 use Rattle.engine.proofs.IndexLaws.{forall-refused}
 
 one-requires : tie.Need-one-requires

@@ -1,7 +1,7 @@
 use borrow.Author.Needs.{needs}
 use Rattle.engine.proofs.foralls.run.Statement.{statement}
 use Rattle.engine.proofs.foralls.run.Tie as tie
-use Rattle.engine.proofs.ReplyLaws.{end-inside}
+use Rattle.replies.proofs.ReplyLaws.{end-inside}
 use Rattle.engine.proofs.ResultLaws.{one-made}
 use Rattle.engine.proofs.IndexLaws.{forall-result}
 
@@ -17,8 +17,8 @@ ending-requires c κs = end-inside (c .before .before .before .before .before .b
 deliver-requires : tie.Need-deliver-requires
 deliver-requires c κs = search needs
 
-made-requires : tie.Need-made-requires
-made-requires c κs = search needs
+with-size-requires : tie.Need-with-size-requires
+with-size-requires c κs = search needs
 
 same-length : tie.Need-same-length
 same-length c = search needs
@@ -27,7 +27,7 @@ same-length-2 : tie.Need-same-length-2
 same-length-2 c = search needs
 
 returns : tie.Need-returns
-returns c = let p = c .before .before .before .before .before .before .before .before .before .before .before .before .before .before .before .before .before .before .before .args in one-made (forall-result (p .f .now) (p .k) (p .out .now) (c .before .before .before .before .before .before .before .before .before .before .before .before .before .before .before .before .before .before .before .pre .0) (c .before .before .before .before .before .before .before .before .before .before .before .before .before .before .before .before .before .before .before .pre .1) (c .before .before .before .before .before .before .before .before .before .before .before .before .before .before .before .before .before .before .before .pre .2)) (c .before .before .before .before .before .before .before .before .before .before .before .before .before .before .before .before .before .before .before .pre .3) (c .before .before .before .before .before .before .before .before .before .before .before .before .before .before .before .before .before .before .before .pre .4) (c .before .before .before .before .before .before .before .before .before .before .before .forall .ensures) (c .before .before .before .before .before .before .before .before .before .before .before .before .before .used .ensures) (c .before .before .before .before .before .before .before .ending .ensures) (c .before .before .before .deliver .ensures) (c .made .ensures)
+returns c = let p = c .before .before .before .before .before .before .before .before .before .before .before .before .before .before .before .before .before .before .before .args in one-made (forall-result (p .f .now) (p .k) (p .out .now) (c .before .before .before .before .before .before .before .before .before .before .before .before .before .before .before .before .before .before .before .pre .0) (c .before .before .before .before .before .before .before .before .before .before .before .before .before .before .before .before .before .before .before .pre .1) (c .before .before .before .before .before .before .before .before .before .before .before .before .before .before .before .before .before .before .before .pre .2)) (c .before .before .before .before .before .before .before .before .before .before .before .before .before .before .before .before .before .before .before .pre .3) (c .before .before .before .before .before .before .before .before .before .before .before .before .before .before .before .before .before .before .before .pre .4) (c .before .before .before .before .before .before .before .before .before .before .before .forall .ensures) (c .before .before .before .before .before .before .before .before .before .before .before .before .before .used .ensures) (c .before .before .before .before .before .before .before .ending .ensures) (c .before .before .before .deliver .ensures) (c .with-size .ensures)
 
 pub run-spec : {M : Type 1} → statement M
 run-spec =
@@ -37,7 +37,7 @@ run-spec =
     forall-requires
     ending-requires
     deliver-requires
-    made-requires
+    with-size-requires
     same-length
     same-length-2
     returns)

@@ -5,7 +5,7 @@ use mathlib.Core.Path.{sym, _∙_}
 use native.Mathlib.Omega.{arith}
 use borrow.Author.Tests.{ltb-true}
 use Rattle.calculus.proofs.Fields.{below-each}
-use Rattle.engine.proofs.GateLaws.{one-open}
+use Rattle.replies.proofs.GateLaws.{one-open}
 use Rattle.engine.proofs.IndexLaws.{shift-refused}
 
 one-requires : tie.Need-one-requires

@@ -6,7 +6,7 @@ use native.Mathlib.Omega.{arith}
 use borrow.Author.Tests.{ltb-true}
 use Rattle.formula.specs.declared.Sort.the-variants.{Intervals}
 use Rattle.calculus.proofs.Fields.{below-each}
-use Rattle.engine.proofs.GateLaws.{two-open}
+use Rattle.replies.proofs.GateLaws.{two-open}
 use Rattle.engine.proofs.IndexLaws.{substitute-refused}
 
 two-requires : tie.Need-two-requires

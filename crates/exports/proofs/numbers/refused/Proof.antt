@@ -2,7 +2,7 @@ use borrow.Author.Needs.{needs}
 use Rattle.exports.proofs.numbers.refused.Statement.{statement}
 use Rattle.exports.proofs.numbers.refused.Tie as tie
 use native.Mathlib.Omega.{arith}
-use Rattle.engine.specs.Replying.{refusalOf}
+use Rattle.replies.specs.Replying.{refusalOf}
 use Rattle.exports.proofs.NumberLaws.{number-range}
 
 number-requires : tie.Need-number-requires

@@ -2,7 +2,7 @@ use borrow.Author.Needs.{needs}
 use Rattle.formula.proofs.node.is_literal.Statement.{statement}
 use Rattle.formula.proofs.node.is_literal.Tie as tie
 use mathlib.Core.Path.{sym, ap, _∙_}
-use Rattle.formula.specs.Walks.{literalKind}
+use Rattle.formula.specs.Answers.{literalKind}
 
 kind-of-requires : tie.Need-kind-of-requires
 kind-of-requires c κs = search needs

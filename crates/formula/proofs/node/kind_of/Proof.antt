@@ -2,7 +2,7 @@ use borrow.Author.Needs.{needs}
 use Rattle.formula.proofs.node.kind_of.Statement.{statement}
 use Rattle.formula.proofs.node.kind_of.Tie as tie
 use mathlib.Core.Path.{sym, ap, _∙_}
-use Rattle.formula.specs.Walks.{kindOf}
+use Rattle.formula.specs.Answers.{kindOf}
 use Rattle.formula.specs.declared.Sort.{Sort}
 
 enum-told : tie.Need-enum-told

@@ -6,8 +6,8 @@ use mathlib.Core.Path.{sym, ap, _∙_}
 use Rattle.ledger.proofs.PointLaws.{inside, points-entry}
 use Prim.Native.Nat.{ℕ, _+_, _*_}
 use Rattle.calculus.specs.Table.{entryOf}
-use Rattle.records.specs.Kinds.{entryAs}
-use Rattle.ledger.proofs.EntryLaws.{listed-same, not-unlisted}
+use Rattle.kinds.specs.Kinds.{entryAs}
+use Rattle.kinds.proofs.KindLaws.{listed-same, not-unlisted}
 
 kind-requires : tie.Need-kind-requires
 kind-requires c κs = search needs

@@ -4,8 +4,8 @@ use Rattle.ledger.proofs.Cursor.predicate.Tie as tie
 use mathlib.Core.Path.{sym, ap, _∙_}
 use Rattle.ledger.proofs.PointLaws.{points-entry}
 use Rattle.calculus.specs.Table.{entryOf}
-use Rattle.records.specs.Kinds.{entryAs}
-use Rattle.ledger.proofs.EntryLaws.{listed-same, not-unlisted}
+use Rattle.kinds.specs.Kinds.{entryAs}
+use Rattle.kinds.proofs.KindLaws.{listed-same, not-unlisted}
 use Prim.Native.Nat.{ℕ}
 
 kind-requires : tie.Need-kind-requires

@@ -1,7 +1,8 @@
 use mathlib.Core.Path.{sym, _∙_}
 use borrow.Author.Needs.{needs}
 use Rattle.calculus.specs.Table.{entryOf}
-use Rattle.records.proofs.BodyLaws.{listed-below, body-short, body-law}
+use Rattle.kinds.proofs.KindLaws.{listed-below}
+use Rattle.records.proofs.BodyLaws.{body-short, body-law}
 use Rattle.records.proofs.body.body_fits.Statement.{statement}
 use Rattle.records.proofs.body.body_fits.Tie as tie
 

@@ -5,7 +5,7 @@ use native.Mathlib.Omega.{arith}
 use borrow.Author.Needs.{needs}
 use lib.ListN.{length}
 use Rattle.calculus.specs.Record.{fields}
-use Rattle.records.specs.Kinds.{predicateOf}
+use Rattle.kinds.specs.Kinds.{predicateOf}
 use Rattle.records.specs.Places.{valuesEnd}
 use Rattle.records.proofs.FieldLaws.{valuesFrom, values-on, values-none, field-fits}
 use Rattle.records.proofs.fields.values_end.Statement.{statement}

@@ -2,7 +2,7 @@ use Rattle.records.proofs.numbers.clear.Statement.{statement}
 use Rattle.records.proofs.numbers.clear.Tie as tie
 use native.Mathlib.Omega.{arith}
 use mathlib.Core.Path.{_≡_, refl, sym, ap, _∙_}
-use Prim.Native.Nat.{ℕ, _+_, _-_, _≤_}
+use Prim.Native.Nat.{ℕ, _-_, _≤_}
 use lib.ListN.{length, length-set, replicate}
 use lib.Seq.{sets}
 use Rattle.records.proofs.NumberLaws.{clear-step}

@@ -4,7 +4,6 @@ use Rattle.records.proofs.numbers.put2.Tie as tie
 use native.Mathlib.Omega.{arith}
 use lib.ListN.{length-set}
 use native.Mathlib.Numerals.{add-one}
-use mathlib.Core.Path.{refl}
 
 cast-s : tie.Need-cast-s
 cast-s c = search needs

@@ -1,7 +1,6 @@
 use borrow.Author.Needs.{needs}
 use Rattle.records.proofs.numbers.sixteen.Statement.{statement}
 use Rattle.records.proofs.numbers.sixteen.Tie as tie
-use native.Mathlib.Omega.{arith}
 use Rattle.records.proofs.NumberLaws.{sixteen-zero}
 
 get4-requires : tie.Need-get4-requires

@@ -1,7 +1,6 @@
 use borrow.Author.Needs.{needs}
 use Rattle.steps.proofs.below.bounded_kind.Statement.{statement}
 use Rattle.steps.proofs.below.bounded_kind.Tie as tie
-use native.Mathlib.Omega.{arith}
 use Rattle.steps.proofs.BelowLaws.{kind-low, kind-as}
 
 enum-told : tie.Need-enum-told

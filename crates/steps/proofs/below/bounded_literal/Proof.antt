@@ -1,8 +1,7 @@
 use borrow.Author.Needs.{needs}
 use Rattle.steps.proofs.below.bounded_literal.Statement.{statement}
 use Rattle.steps.proofs.below.bounded_literal.Tie as tie
-use native.Mathlib.Omega.{arith}
-use mathlib.Core.Path.{_≡_, refl, sym, ap, ap₂, _∙_}
+use mathlib.Core.Path.{sym, _∙_}
 use borrow.Author.Tests.{not-true, not-false}
 use Rattle.steps.specs.Trees.{treeOf}
 use Rattle.steps.proofs.RunLaws.{runs-led}

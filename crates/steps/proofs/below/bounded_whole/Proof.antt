@@ -1,8 +1,8 @@
 use borrow.Author.Needs.{needs}
 use Rattle.steps.proofs.below.bounded_whole.Statement.{statement}
 use Rattle.steps.proofs.below.bounded_whole.Tie as tie
-use mathlib.Core.Path.{_≡_, refl, ap, subst₂}
-use mathlib.Core.List.{List, _++_, _∷_, []}
+use mathlib.Core.Path.{ap}
+use mathlib.Core.List.{List, _++_}
 use Prim.Native.Nat.{ℕ}
 use Rattle.steps.proofs.RunLaws.{emits-same, emits-kind}
 

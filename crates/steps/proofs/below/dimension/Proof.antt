@@ -2,7 +2,7 @@ use borrow.Author.Needs.{needs}
 use Rattle.steps.proofs.below.dimension.Statement.{statement}
 use Rattle.steps.proofs.below.dimension.Tie as tie
 use native.Mathlib.Omega.{arith}
-use mathlib.Core.Path.{_≡_, refl, sym, ap, ap₂, _∙_}
+use mathlib.Core.Path.{sym, ap, ap₂, _∙_}
 use borrow.Author.Tests.{not-true, not-false}
 use mathlib.Core.List.{List, _++_, _∷_, []}
 use Prim.Native.Nat.{ℕ}

@@ -14,12 +14,12 @@ use Rattle.steps.proofs.numbers.+comparison.{statement}
 use Rattle.steps.proofs.numbers.+comparison.Tie.{close}
 use native.Mathlib.Omega.{arith}
 use borrow.Author.Needs.{needs}
-use mathlib.Core.Path.{_≡_, refl, sym, ap, ap₂, _∙_}
+use mathlib.Core.Path.{sym, ap, ap₂, _∙_}
 use borrow.Author.Tests.{not-true, not-false}
 use mathlib.Core.List.{List, _++_}
 use lib.ListN.{length}
 use Rattle.steps.specs.Running.{order}
-use Rattle.steps.proofs.RunLaws.{emits-same, runs-led, runs-long}
+use Rattle.steps.proofs.RunLaws.{emits-same, runs-led}
 use Rattle.steps.proofs.CompareLaws.{compare-zero, compare-never, compare-stop, compare-up}
 
 abbrev μ-comparison : Measures 1 comparison-kinds.ps ℕ
@@ -33,367 +33,69 @@ abbrev comparison-below : ℕ → In 1 comparison-kinds.ps
 comparison-below t =
     and 1 comparison-kinds.ps (falls 1 comparison-kinds.ps _<_ μ-comparison t) comparison.Pre
 
-comparison-from-zero-requires : (t : ℕ) → comparison-lts.Need-from-zero-requires (
-  from-zero-reads.Asked,
-  from-zero-reads.Learnt,
-  comparison-below t,
-  comparison.Post,
-  is-done-reads.Asked,
-  is-done-reads.Learnt,
-  up-kind-reads.Asked,
-  up-kind-reads.Learnt,
-  step-of-reads.Asked,
-  step-of-reads.Learnt,
-  number-reads.Asked,
-  number-reads.Learnt,
-  emit2-reads.Asked,
-  emit2-reads.Learnt,
-) (comparison-at t) comparison.Post
+-- What comparison is told of the functions that it calls.
+abbrev comparison-claims : ℕ → comparison-lts.Claims
+comparison-claims t = (from-zero-reads.Asked, from-zero-reads.Learnt, comparison-below t, comparison.Post, is-done-reads.Asked, is-done-reads.Learnt, up-kind-reads.Asked, up-kind-reads.Learnt, step-of-reads.Asked, step-of-reads.Learnt, number-reads.Asked, number-reads.Learnt, emit2-reads.Asked, emit2-reads.Learnt)
+
+comparison-from-zero-requires : (t : ℕ) → comparison-lts.Need-from-zero-requires (comparison-claims t) (comparison-at t) comparison.Post
 comparison-from-zero-requires t c κs = (c .before .before .before .pre .1 .0, c .before .before .before .pre .1 .2)
 
-comparison-same-length : (t : ℕ) → comparison-lts.Need-same-length (
-  from-zero-reads.Asked,
-  from-zero-reads.Learnt,
-  comparison-below t,
-  comparison.Post,
-  is-done-reads.Asked,
-  is-done-reads.Learnt,
-  up-kind-reads.Asked,
-  up-kind-reads.Learnt,
-  step-of-reads.Asked,
-  step-of-reads.Learnt,
-  number-reads.Asked,
-  number-reads.Learnt,
-  emit2-reads.Asked,
-  emit2-reads.Learnt,
-) (comparison-at t) comparison.Post
+comparison-same-length : (t : ℕ) → comparison-lts.Need-same-length (comparison-claims t) (comparison-at t) comparison.Post
 comparison-same-length t c = search needs
 
-comparison-returns : (t : ℕ) → comparison-lts.Need-returns (
-  from-zero-reads.Asked,
-  from-zero-reads.Learnt,
-  comparison-below t,
-  comparison.Post,
-  is-done-reads.Asked,
-  is-done-reads.Learnt,
-  up-kind-reads.Asked,
-  up-kind-reads.Learnt,
-  step-of-reads.Asked,
-  step-of-reads.Learnt,
-  number-reads.Asked,
-  number-reads.Learnt,
-  emit2-reads.Asked,
-  emit2-reads.Learnt,
-) (comparison-at t) comparison.Post
+comparison-returns : (t : ℕ) → comparison-lts.Need-returns (comparison-claims t) (comparison-at t) comparison.Post
 comparison-returns t c = let a = c .before .before .before .before .before .before .args in compare-zero (order (a .strict)) (a .m) (a .n) (c .before .before .before .before .if1 .taken) (c .before .before .from-zero .ensures)
 
-comparison-returns-2 : (t : ℕ) → comparison-lts.Need-returns-2 (
-  from-zero-reads.Asked,
-  from-zero-reads.Learnt,
-  comparison-below t,
-  comparison.Post,
-  is-done-reads.Asked,
-  is-done-reads.Learnt,
-  up-kind-reads.Asked,
-  up-kind-reads.Learnt,
-  step-of-reads.Asked,
-  step-of-reads.Learnt,
-  number-reads.Asked,
-  number-reads.Learnt,
-  emit2-reads.Asked,
-  emit2-reads.Learnt,
-) (comparison-at t) comparison.Post
+comparison-returns-2 : (t : ℕ) → comparison-lts.Need-returns-2 (comparison-claims t) (comparison-at t) comparison.Post
 comparison-returns-2 t c = let a = c .before .before .before .args in compare-never (c .before .before .before .pre .1 .0) (order (a .strict)) (a .m) (a .n) (c .before .if1 .left) (c .if2 .taken)
 
-comparison-sub-comparison : (t : ℕ) → comparison-lts.Need-sub-comparison (
-  from-zero-reads.Asked,
-  from-zero-reads.Learnt,
-  comparison-below t,
-  comparison.Post,
-  is-done-reads.Asked,
-  is-done-reads.Learnt,
-  up-kind-reads.Asked,
-  up-kind-reads.Learnt,
-  step-of-reads.Asked,
-  step-of-reads.Learnt,
-  number-reads.Asked,
-  number-reads.Learnt,
-  emit2-reads.Asked,
-  emit2-reads.Learnt,
-) (comparison-at t) comparison.Post
+comparison-sub-comparison : (t : ℕ) → comparison-lts.Need-sub-comparison (comparison-claims t) (comparison-at t) comparison.Post
 comparison-sub-comparison t c = omega arith
 
-comparison-sub-comparison-2 : (t : ℕ) → comparison-lts.Need-sub-comparison-2 (
-  from-zero-reads.Asked,
-  from-zero-reads.Learnt,
-  comparison-below t,
-  comparison.Post,
-  is-done-reads.Asked,
-  is-done-reads.Learnt,
-  up-kind-reads.Asked,
-  up-kind-reads.Learnt,
-  step-of-reads.Asked,
-  step-of-reads.Learnt,
-  number-reads.Asked,
-  number-reads.Learnt,
-  emit2-reads.Asked,
-  emit2-reads.Learnt,
-) (comparison-at t) comparison.Post
+comparison-sub-comparison-2 : (t : ℕ) → comparison-lts.Need-sub-comparison-2 (comparison-claims t) (comparison-at t) comparison.Post
 comparison-sub-comparison-2 t c = omega arith
 
-comparison-comparison-requires : (t : ℕ) → comparison-lts.Need-comparison-requires (
-  from-zero-reads.Asked,
-  from-zero-reads.Learnt,
-  comparison-below t,
-  comparison.Post,
-  is-done-reads.Asked,
-  is-done-reads.Learnt,
-  up-kind-reads.Asked,
-  up-kind-reads.Learnt,
-  step-of-reads.Asked,
-  step-of-reads.Learnt,
-  number-reads.Asked,
-  number-reads.Learnt,
-  emit2-reads.Asked,
-  emit2-reads.Learnt,
-) (comparison-at t) comparison.Post
+comparison-comparison-requires : (t : ℕ) → comparison-lts.Need-comparison-requires (comparison-claims t) (comparison-at t) comparison.Post
 comparison-comparison-requires t c κs = (omega (arith, c .before .before .before .before .pre .0), (c .before .before .before .before .pre .1 .0, omega (arith, c .before .before .before .before .pre .1 .1), omega (arith, c .before .before .before .before .pre .1 .2)))
 
-comparison-is-done-requires : (t : ℕ) → comparison-lts.Need-is-done-requires (
-  from-zero-reads.Asked,
-  from-zero-reads.Learnt,
-  comparison-below t,
-  comparison.Post,
-  is-done-reads.Asked,
-  is-done-reads.Learnt,
-  up-kind-reads.Asked,
-  up-kind-reads.Learnt,
-  step-of-reads.Asked,
-  step-of-reads.Learnt,
-  number-reads.Asked,
-  number-reads.Learnt,
-  emit2-reads.Asked,
-  emit2-reads.Learnt,
-) (comparison-at t) comparison.Post
+comparison-is-done-requires : (t : ℕ) → comparison-lts.Need-is-done-requires (comparison-claims t) (comparison-at t) comparison.Post
 comparison-is-done-requires t c κs = tt
 
-comparison-same-length-2 : (t : ℕ) → comparison-lts.Need-same-length-2 (
-  from-zero-reads.Asked,
-  from-zero-reads.Learnt,
-  comparison-below t,
-  comparison.Post,
-  is-done-reads.Asked,
-  is-done-reads.Learnt,
-  up-kind-reads.Asked,
-  up-kind-reads.Learnt,
-  step-of-reads.Asked,
-  step-of-reads.Learnt,
-  number-reads.Asked,
-  number-reads.Learnt,
-  emit2-reads.Asked,
-  emit2-reads.Learnt,
-) (comparison-at t) comparison.Post
+comparison-same-length-2 : (t : ℕ) → comparison-lts.Need-same-length-2 (comparison-claims t) (comparison-at t) comparison.Post
 comparison-same-length-2 t c = search needs
 
-comparison-returns-3 : (t : ℕ) → comparison-lts.Need-returns-3 (
-  from-zero-reads.Asked,
-  from-zero-reads.Learnt,
-  comparison-below t,
-  comparison.Post,
-  is-done-reads.Asked,
-  is-done-reads.Learnt,
-  up-kind-reads.Asked,
-  up-kind-reads.Learnt,
-  step-of-reads.Asked,
-  step-of-reads.Learnt,
-  number-reads.Asked,
-  number-reads.Learnt,
-  emit2-reads.Asked,
-  emit2-reads.Learnt,
-) (comparison-at t) comparison.Post
+comparison-returns-3 : (t : ℕ) → comparison-lts.Need-returns-3 (comparison-claims t) (comparison-at t) comparison.Post
 comparison-returns-3 t c = let a = c .before .before .before .before .before .before .before .before .before .args in compare-stop (order (a .strict)) (a .m) (a .n) (c .before .before .before .before .before .before .before .if1 .left) (c .before .before .before .before .before .before .if2 .left) (c .before .before .before .before .comparison .ensures) (sym (c .before .is-done .ensures) ∙ not-true _ (c .if3 .taken))
 
-comparison-up-kind-requires : (t : ℕ) → comparison-lts.Need-up-kind-requires (
-  from-zero-reads.Asked,
-  from-zero-reads.Learnt,
-  comparison-below t,
-  comparison.Post,
-  is-done-reads.Asked,
-  is-done-reads.Learnt,
-  up-kind-reads.Asked,
-  up-kind-reads.Learnt,
-  step-of-reads.Asked,
-  step-of-reads.Learnt,
-  number-reads.Asked,
-  number-reads.Learnt,
-  emit2-reads.Asked,
-  emit2-reads.Learnt,
-) (comparison-at t) comparison.Post
+comparison-up-kind-requires : (t : ℕ) → comparison-lts.Need-up-kind-requires (comparison-claims t) (comparison-at t) comparison.Post
 comparison-up-kind-requires t c κs = tt
 
-comparison-step-of-requires : (t : ℕ) → comparison-lts.Need-step-of-requires (
-  from-zero-reads.Asked,
-  from-zero-reads.Learnt,
-  comparison-below t,
-  comparison.Post,
-  is-done-reads.Asked,
-  is-done-reads.Learnt,
-  up-kind-reads.Asked,
-  up-kind-reads.Learnt,
-  step-of-reads.Asked,
-  step-of-reads.Learnt,
-  number-reads.Asked,
-  number-reads.Learnt,
-  emit2-reads.Asked,
-  emit2-reads.Learnt,
-) (comparison-at t) comparison.Post
+comparison-step-of-requires : (t : ℕ) → comparison-lts.Need-step-of-requires (comparison-claims t) (comparison-at t) comparison.Post
 comparison-step-of-requires t c κs = tt
 
-comparison-number-requires : (t : ℕ) → comparison-lts.Need-number-requires (
-  from-zero-reads.Asked,
-  from-zero-reads.Learnt,
-  comparison-below t,
-  comparison.Post,
-  is-done-reads.Asked,
-  is-done-reads.Learnt,
-  up-kind-reads.Asked,
-  up-kind-reads.Learnt,
-  step-of-reads.Asked,
-  step-of-reads.Learnt,
-  number-reads.Asked,
-  number-reads.Learnt,
-  emit2-reads.Asked,
-  emit2-reads.Learnt,
-) (comparison-at t) comparison.Post
+comparison-number-requires : (t : ℕ) → comparison-lts.Need-number-requires (comparison-claims t) (comparison-at t) comparison.Post
 comparison-number-requires t c κs = omega (arith, c .before .before .before .before .before .before .before .before .before .before .before .before .pre .1 .1)
 
-comparison-slice-aggregate-emit2 : (t : ℕ) → comparison-lts.Need-slice-aggregate-emit2 (
-  from-zero-reads.Asked,
-  from-zero-reads.Learnt,
-  comparison-below t,
-  comparison.Post,
-  is-done-reads.Asked,
-  is-done-reads.Learnt,
-  up-kind-reads.Asked,
-  up-kind-reads.Learnt,
-  step-of-reads.Asked,
-  step-of-reads.Learnt,
-  number-reads.Asked,
-  number-reads.Learnt,
-  emit2-reads.Asked,
-  emit2-reads.Learnt,
-) (comparison-at t) comparison.Post
+comparison-slice-aggregate-emit2 : (t : ℕ) → comparison-lts.Need-slice-aggregate-emit2 (comparison-claims t) (comparison-at t) comparison.Post
 comparison-slice-aggregate-emit2 t c = search needs
 
-comparison-number-requires-2 : (t : ℕ) → comparison-lts.Need-number-requires-2 (
-  from-zero-reads.Asked,
-  from-zero-reads.Learnt,
-  comparison-below t,
-  comparison.Post,
-  is-done-reads.Asked,
-  is-done-reads.Learnt,
-  up-kind-reads.Asked,
-  up-kind-reads.Learnt,
-  step-of-reads.Asked,
-  step-of-reads.Learnt,
-  number-reads.Asked,
-  number-reads.Learnt,
-  emit2-reads.Asked,
-  emit2-reads.Learnt,
-) (comparison-at t) comparison.Post
+comparison-number-requires-2 : (t : ℕ) → comparison-lts.Need-number-requires-2 (comparison-claims t) (comparison-at t) comparison.Post
 comparison-number-requires-2 t c κs = omega (arith, c .before .before .before .before .before .before .before .before .before .before .before .before .before .before .pre .1 .2)
 
-comparison-slice-aggregate-emit2-2 : (t : ℕ) → comparison-lts.Need-slice-aggregate-emit2-2 (
-  from-zero-reads.Asked,
-  from-zero-reads.Learnt,
-  comparison-below t,
-  comparison.Post,
-  is-done-reads.Asked,
-  is-done-reads.Learnt,
-  up-kind-reads.Asked,
-  up-kind-reads.Learnt,
-  step-of-reads.Asked,
-  step-of-reads.Learnt,
-  number-reads.Asked,
-  number-reads.Learnt,
-  emit2-reads.Asked,
-  emit2-reads.Learnt,
-) (comparison-at t) comparison.Post
+comparison-slice-aggregate-emit2-2 : (t : ℕ) → comparison-lts.Need-slice-aggregate-emit2-2 (comparison-claims t) (comparison-at t) comparison.Post
 comparison-slice-aggregate-emit2-2 t c = search needs
 
-comparison-emit2-requires : (t : ℕ) → comparison-lts.Need-emit2-requires (
-  from-zero-reads.Asked,
-  from-zero-reads.Learnt,
-  comparison-below t,
-  comparison.Post,
-  is-done-reads.Asked,
-  is-done-reads.Learnt,
-  up-kind-reads.Asked,
-  up-kind-reads.Learnt,
-  step-of-reads.Asked,
-  step-of-reads.Learnt,
-  number-reads.Asked,
-  number-reads.Learnt,
-  emit2-reads.Asked,
-  emit2-reads.Learnt,
-) (comparison-at t) comparison.Post
+comparison-emit2-requires : (t : ℕ) → comparison-lts.Need-emit2-requires (comparison-claims t) (comparison-at t) comparison.Post
 comparison-emit2-requires t c κs = (runs-led (c .before .before .before .before .before .before .before .before .before .before .before .comparison .ensures), omega (arith, ap length (c .before .before .before .number .ensures), ap length (c .before .number2 .ensures)))
 
-comparison-same-length-3 : (t : ℕ) → comparison-lts.Need-same-length-3 (
-  from-zero-reads.Asked,
-  from-zero-reads.Learnt,
-  comparison-below t,
-  comparison.Post,
-  is-done-reads.Asked,
-  is-done-reads.Learnt,
-  up-kind-reads.Asked,
-  up-kind-reads.Learnt,
-  step-of-reads.Asked,
-  step-of-reads.Learnt,
-  number-reads.Asked,
-  number-reads.Learnt,
-  emit2-reads.Asked,
-  emit2-reads.Learnt,
-) (comparison-at t) comparison.Post
+comparison-same-length-3 : (t : ℕ) → comparison-lts.Need-same-length-3 (comparison-claims t) (comparison-at t) comparison.Post
 comparison-same-length-3 t c = search needs
 
-comparison-returns-4 : (t : ℕ) → comparison-lts.Need-returns-4 (
-  from-zero-reads.Asked,
-  from-zero-reads.Learnt,
-  comparison-below t,
-  comparison.Post,
-  is-done-reads.Asked,
-  is-done-reads.Learnt,
-  up-kind-reads.Asked,
-  up-kind-reads.Learnt,
-  step-of-reads.Asked,
-  step-of-reads.Learnt,
-  number-reads.Asked,
-  number-reads.Learnt,
-  emit2-reads.Asked,
-  emit2-reads.Learnt,
-) (comparison-at t) comparison.Post
+comparison-returns-4 : (t : ℕ) → comparison-lts.Need-returns-4 (comparison-claims t) (comparison-at t) comparison.Post
 comparison-returns-4 t c = let a = c .before .before .before .before .before .before .before .before .before .before .before .before .before .before .before .before .before .before .before .args in compare-up (order (a .strict)) (a .m) (a .n) _ _ (c .before .before .before .before .before .before .before .before .before .before .before .before .before .before .before .before .before .if1 .left) (c .before .before .before .before .before .before .before .before .before .before .before .before .before .before .before .before .if2 .left) (c .before .before .before .before .before .before .before .before .before .before .before .before .before .before .before .before .before .before .before .pre .1 .1) (c .before .before .before .before .before .before .before .before .before .before .before .before .before .before .before .before .before .before .before .pre .1 .2) (c .before .before .before .before .before .before .before .before .before .before .before .before .before .before .comparison .ensures) (sym (c .before .before .before .before .before .before .before .before .before .before .before .is-done .ensures) ∙ not-false _ (c .before .before .before .before .before .before .before .before .before .before .if3 .left)) (c .before .before .before .before .before .before .before .before .up-kind .ensures) (c .before .before .before .before .before .before .before .step-of .ensures) (emits-same (ap₂ (λ (x y : List ℕ). x ++ y) (c .before .before .before .before .before .before .number .ensures) (c .before .before .before .before .number2 .ensures)) (c .before .before .emit2 .ensures))
 
 pub +comparison-spec : {M : Type 1} → statement M
-+comparison-spec = close μ-comparison λ t. comparison-lts.spec (
-  from-zero-reads.Asked,
-  from-zero-reads.Learnt,
-  comparison-below t,
-  comparison.Post,
-  is-done-reads.Asked,
-  is-done-reads.Learnt,
-  up-kind-reads.Asked,
-  up-kind-reads.Learnt,
-  step-of-reads.Asked,
-  step-of-reads.Learnt,
-  number-reads.Asked,
-  number-reads.Learnt,
-  emit2-reads.Asked,
-  emit2-reads.Learnt,
-)
-    (comparison-at t)
-    comparison.Post
++comparison-spec = close μ-comparison λ t. comparison-lts.spec (comparison-claims t) (comparison-at t) comparison.Post
     (comparison-from-zero-requires t)
     (comparison-same-length t)
     (comparison-returns t)

@@ -1,7 +1,7 @@
 use borrow.Author.Needs.{needs}
 use Rattle.steps.proofs.numbers.from_zero.Statement.{statement}
 use Rattle.steps.proofs.numbers.from_zero.Tie as tie
-use mathlib.Core.Path.{_≡_, refl, sym, ap₂, _∙_}
+use mathlib.Core.Path.{ap₂}
 use borrow.Author.Tests.{not-true, not-false}
 use mathlib.Core.List.{List, _++_}
 use Prim.Native.Nat.{ℕ}

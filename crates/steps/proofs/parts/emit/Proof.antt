@@ -2,9 +2,9 @@ use borrow.Author.Needs.{needs}
 use Rattle.steps.proofs.parts.emit.Statement.{statement}
 use Rattle.steps.proofs.parts.emit.Tie as tie
 use native.Mathlib.Omega.{arith}
-use mathlib.Core.Path.{_≡_, refl, sym, ap, _∙_}
-use lib.ListN.{length, length-replicate, replicate, length-append}
-use mathlib.Core.List.{List, _++_}
+use mathlib.Core.Path.{sym, ap, _∙_}
+use lib.ListN.{length, length-replicate, replicate}
+use mathlib.Core.List.{_++_}
 use Prim.Native.Nat.{ℕ}
 use Rattle.steps.proofs.RunLaws.{emits-number, emits-full}
 use Rattle.steps.proofs.PartLaws.{five-parts, five-length}

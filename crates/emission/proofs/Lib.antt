@@ -1,0 +1,3 @@
+pub mod FindLaws
+pub mod GrowLaws
+pub mod EmitLaws

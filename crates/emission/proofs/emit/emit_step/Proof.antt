@@ -1,0 +1,39 @@
+use borrow.Author.Needs.{needs}
+use Rattle.emission.proofs.emit.emit_step.Statement.{statement}
+use Rattle.emission.proofs.emit.emit_step.Tie as tie
+use mathlib.Core.Path.{sym, _∙_}
+use Rattle.kinds.proofs.KindLaws.{few-references}
+use Rattle.emission.proofs.EmitLaws.{emit-as, emit-no-kind}
+
+entry-of-requires : tie.Need-entry-of-requires
+entry-of-requires c κs = search needs
+
+enum-known-n : tie.Need-enum-known-n
+enum-known-n c = search needs
+
+emit-listed-requires : tie.Need-emit-listed-requires
+emit-listed-requires c κs = (c .before .before .before .before .before .before .before .pre, few-references (c .before .before .before .before .before .before .before .args .kind) _ _ (sym (c .before .before .n .given .1) ∙ c .before .before .before .before .entry-of .ensures))
+
+enum-told : tie.Need-enum-told
+enum-told c = search needs
+
+same-length : tie.Need-same-length
+same-length c = search needs
+
+returns : tie.Need-returns
+returns c = let a = c .before .before .before .before .before .before .before .before .before .before .args in emit-as (a .l .now) (c .before .before .emit-listed .last .0) (a .kind) _ _ (a .references) (a .operands .now) _ (sym (c .before .before .before .before .before .n .given .1) ∙ c .before .before .before .before .before .before .before .entry-of .ensures) (c .before .before .emit-listed .ensures)
+
+returns-2 : tie.Need-returns-2
+returns-2 c = let a = c .before .before .before .before .before .args in emit-no-kind (a .l .now) (a .l .now) (a .kind) (a .references) (a .operands .now) _ (sym (c .enum-told .given .1) ∙ c .before .before .entry-of .ensures)
+
+pub emit-step-spec : {M : Type 1} → statement M
+emit-step-spec =
+    tie.close
+    (tie.spec
+    entry-of-requires
+    enum-known-n
+    emit-listed-requires
+    enum-told
+    same-length
+    returns
+    returns-2)

@@ -1,0 +1,60 @@
+use borrow.Author.Needs.{needs}
+use Rattle.operations.proofs.results.resized.Statement.{statement}
+use Rattle.operations.proofs.results.resized.Tie as tie
+use mathlib.Core.Path.{sym, ap, _∙_}
+use Rattle.operations.specs.Results.{operand}
+use Rattle.operations.specs.Fitting.{resizedBy}
+use Rattle.operations.proofs.AnswerLaws.{sized-fits, sized-over, sized-ill, opened, opened-whole, resized-kept}
+
+operand-size-requires : tie.Need-operand-size-requires
+operand-size-requires c κs = search needs
+
+enum-told : tie.Need-enum-told
+enum-told c = search needs
+
+weigh-requires : tie.Need-weigh-requires
+weigh-requires c κs = let a = c .before .before .before .before .args in
+    let f = (sized-fits (a .sort) (operand (a .sort) (a .s .now)) _ (sym (c .before .before .operand-size .ensures) ∙ c .enum-told .given .1)) in
+    (opened-whole (a .sort) (a .s .now) (f .tree) (opened (a .sort) (a .s .now) (f .tree) (f .is)), c .before .before .before .before .pre)
+
+within-requires : tie.Need-within-requires
+within-requires c κs = search needs
+
+returns : tie.Need-returns
+returns c = let a = c .before .before .before .before .before .before .before .args in
+    let f = (sized-fits (a .sort) (operand (a .sort) (a .s .now)) _ (sym (c .before .before .before .before .before .operand-size .ensures) ∙ c .before .before .before .enum-told .given .1)) in
+    sym (resized-kept (a .sort) (a .rule) (a .hit) (a .s .now) (f .tree) (f .is) (c .before .before .weigh .result) (c .before .before .weigh .ensures) ∙ rw (sym (c .before .within .ensures) ∙ c .if1 .taken))
+
+enum-told-2 : tie.Need-enum-told-2
+enum-told-2 c = search needs
+
+enum-told-3 : tie.Need-enum-told-3
+enum-told-3 c = search needs
+
+returns-2 : tie.Need-returns-2
+returns-2 c = let a = c .before .before .before .before .before .before .before .args in
+    let f = (sized-fits (a .sort) (operand (a .sort) (a .s .now)) _ (sym (c .before .before .before .before .before .operand-size .ensures) ∙ c .before .before .before .enum-told .given .1)) in
+    sym (resized-kept (a .sort) (a .rule) (a .hit) (a .s .now) (f .tree) (f .is) (c .before .before .weigh .result) (c .before .before .weigh .ensures) ∙ rw (sym (c .before .within .ensures) ∙ c .if1 .left))
+
+returns-3 : tie.Need-returns-3
+returns-3 c = let a = c .before .before .before .before .args in
+    sym (ap (resizedBy (a .sort) (a .rule) (a .hit)) (sized-over (a .sort) (operand (a .sort) (a .s .now)) (sym (c .before .before .operand-size .ensures) ∙ c .enum-told2 .given .1)))
+
+returns-4 : tie.Need-returns-4
+returns-4 c = let a = c .before .before .before .before .args in
+    sym (ap (resizedBy (a .sort) (a .rule) (a .hit)) (sized-ill (a .sort) (operand (a .sort) (a .s .now)) (sym (c .before .before .operand-size .ensures) ∙ c .enum-told3 .given .1)))
+
+pub resized-spec : {M : Type 1} → statement M
+resized-spec =
+    tie.close
+    (tie.spec
+    operand-size-requires
+    enum-told
+    weigh-requires
+    within-requires
+    returns
+    enum-told-2
+    enum-told-3
+    returns-2
+    returns-3
+    returns-4)

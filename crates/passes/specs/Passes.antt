@@ -1,0 +1,235 @@
+-- Passes over a formula that is known to be one: its nodes as tokens, and what each becomes.
+use Prim.Native.Nat.{ℕ, zero, suc, pred, _+_, _-_, _≤_, _<_, max, compare}
+use mathlib.Core.Path.{_≡_}
+use mathlib.Core.Option.{Option·getD}
+use mathlib.Core.List.{List, [], _∷_, _++_}
+use lib.Dec.{eqb}
+use lib.ListN.{length, getD}
+use lib.Seq.{sets}
+use Rattle.formula.specs.Formula.{End, lo, hi, other, Face, ff, ft, at, fand, for, Interval, i0, i1, dim, neg, meet, join, beside, raised}
+use Rattle.formula.specs.Bytes.{Tree, dimWidth, dimBytes, dimAt, encode, readAll}
+use Rattle.formula.specs.Answers.{pick, dimSpace, kindOf}
+use Rattle.formula.specs.declared.Sort.{Sort}
+use Rattle.formula.specs.declared.Sort.the-variants.{Faces, Intervals}
+use Rattle.formula.specs.declared.Size.{Size}
+use Rattle.formula.specs.declared.Kind.{Kind}
+use Rattle.formula.specs.declared.Kind.the-variants.{Nullary, Literal, Unary, Binary, Unknown}
+use Rattle.passes.specs.declared.Rule.{Rule}
+use Rattle.passes.specs.declared.Rule.the-variants.{Up, Down, Ends}
+use Rattle.passes.specs.declared.Moved.{Moved}
+use Rattle.passes.specs.declared.Moved.the-variants.{To, Hit}
+
+-- the formula that a list is; some formula where it is none
+abbrev pub anyTree : (s : Sort) → Tree s
+anyTree Faces = ff
+anyTree Intervals = i0
+
+unfoldable pub treeOf : (s : Sort) → List ℕ → Tree s
+treeOf s l = Option·getD (readAll s l) (anyTree s)
+
+-- a list that is a formula within the limits: its bytes are at most twice its nodes
+pub record Whole (s : Sort) (l : List ℕ) : Type 0 where
+  pub bytes : encode s (treeOf s l) ≡ l
+  pub short : length l ≤ 1022
+
+-- the nodes of a formula in the order of its bytes: a literal with its dimension, or any other, each with its kind byte
+pub data Token : Type 0 where
+  plain : ℕ → Token
+  literal : ℕ → ℕ → Token
+
+unfoldable pub tokensFace : Face → List Token
+tokensFace ff = plain 0 ∷ []
+tokensFace ft = plain 1 ∷ []
+tokensFace (at lo n) = literal 2 n ∷ []
+tokensFace (at hi n) = literal 3 n ∷ []
+tokensFace (fand a b) = plain 4 ∷ tokensFace a ++ tokensFace b
+tokensFace (for a b) = plain 5 ∷ tokensFace a ++ tokensFace b
+
+unfoldable pub tokensInterval : Interval → List Token
+tokensInterval i0 = plain 16 ∷ []
+tokensInterval i1 = plain 17 ∷ []
+tokensInterval (dim n) = literal 18 n ∷ []
+tokensInterval (neg r) = plain 19 ∷ tokensInterval r
+tokensInterval (meet r s) = plain 20 ∷ tokensInterval r ++ tokensInterval s
+tokensInterval (join r s) = plain 21 ∷ tokensInterval r ++ tokensInterval s
+
+abbrev pub tokens : (s : Sort) → Tree s → List Token
+tokens Faces f = tokensFace f
+tokens Intervals r = tokensInterval r
+
+abbrev pub tokensOf : Sort → List ℕ → List Token
+tokensOf s l = tokens s (treeOf s l)
+
+-- the token whose bytes start at a place, and how many they are
+abbrev pub tokenBy : Kind → ℕ → ℕ → Token
+tokenBy Nullary b n = plain b
+tokenBy Literal b n = literal b n
+tokenBy Unary b n = plain b
+tokenBy Binary b n = plain b
+tokenBy Unknown b n = plain b
+
+unfoldable pub tokenAt : Sort → List ℕ → ℕ → Token
+tokenAt s l i = tokenBy (kindOf s (getD l i 0)) (getD l i 0) (dimAt l (i + 1))
+
+abbrev pub spanBy : Kind → ℕ
+spanBy Nullary = 1
+spanBy Literal = 1 + dimWidth
+spanBy Unary = 1
+spanBy Binary = 1
+spanBy Unknown = 1
+
+-- the place behind a token
+abbrev pub behindAt : Sort → List ℕ → ℕ → ℕ
+behindAt s l i = i + spanBy (kindOf s (getD l i 0))
+
+-- where a dimension goes: to another, or it is the one that is replaced
+abbrev pub movedTo : Rule → ℕ → Moved
+movedTo (Up k) n = To (raised k n)
+movedTo (Down k) n = beside (compare n k) (To n) Hit (To (pred n))
+movedTo Ends n = To n
+
+-- sums of sizes
+infixr 60 _⊕_
+abbrev pub _⊕_ : Size → Size → Size
+_⊕_ a b = record { len = a .len + b .len; nodes = a .nodes + b .nodes; bound = max (a .bound) (b .bound) }
+
+abbrev pub zeroSize : Size
+zeroSize = record { len = 0; nodes = 0; bound = 0 }
+
+abbrev pub plainSize : Size
+plainSize = record { len = 1; nodes = 1; bound = 0 }
+
+unfoldable pub weighs : (Token → Size) → List Token → Size
+weighs f [] = zeroSize
+weighs f (t ∷ ts) = f t ⊕ weighs f ts
+
+-- the size of what a token becomes: the boundary of a negation has no node for it
+abbrev pub plainWeight : Rule → Kind → Size
+plainWeight (Up k) x = plainSize
+plainWeight (Down k) x = plainSize
+plainWeight Ends Nullary = plainSize
+plainWeight Ends Literal = plainSize
+plainWeight Ends Unary = zeroSize
+plainWeight Ends Binary = plainSize
+plainWeight Ends Unknown = plainSize
+
+abbrev pub movedWeight : Moved → Size → Size
+movedWeight (To m) hit = record { len = 1 + dimWidth; nodes = 1; bound = m + 1 }
+movedWeight Hit hit = hit
+
+abbrev pub weightOf : Sort → Rule → Size → Token → Size
+weightOf s rule hit (plain b) = plainWeight rule (kindOf s b)
+weightOf s rule hit (literal b n) = movedWeight (movedTo rule n) hit
+
+-- how much a size may be for sums of them to be in range
+pub record Small (z : Size) : Type 0 where
+  pub len : z .len ≤ 1022
+  pub nodes : z .nodes ≤ 511
+
+-- the bytes that a token becomes
+unfoldable pub spell : (Token → List ℕ) → List Token → List ℕ
+spell f [] = []
+spell f (t ∷ ts) = f t ++ spell f ts
+
+abbrev pub rawBytes : Token → List ℕ
+rawBytes (plain b) = b ∷ []
+rawBytes (literal b n) = b ∷ dimBytes n
+
+abbrev pub movedBytes : ℕ → Moved → List ℕ → List ℕ → List ℕ
+movedBytes b (To m) zero-side one-side = b ∷ dimBytes m
+movedBytes b Hit zero-side one-side = pick (eqb b 3) one-side zero-side
+
+abbrev pub imageOf : Rule → List ℕ → List ℕ → Token → List ℕ
+imageOf rule zero-side one-side (plain b) = b ∷ []
+imageOf rule zero-side one-side (literal b n) = movedBytes b (movedTo rule n) zero-side one-side
+
+-- every dimension goes to one that its field can hold
+abbrev pub Fielded : Moved → Type 0
+Fielded (To m) = m < dimSpace
+Fielded Hit = Unit {0}
+
+abbrev pub FieldedAt : Rule → Token → Type 0
+FieldedAt rule (plain b) = Unit {0}
+FieldedAt rule (literal b n) = Fielded (movedTo rule n)
+
+abbrev pub AllTokens : (Token → Type 0) → List Token → Type 0
+AllTokens P [] = Unit {0}
+AllTokens P (t ∷ ts) = P t × AllTokens P ts
+
+-- the token at a place of s, and room for its bytes at o of n
+pub record Room (s : Sort) (l : List ℕ) (i : ℕ) (f : Token → List ℕ) (n o : ℕ) : Type 0 where
+  pub inside : behindAt s l i ≤ length l
+  pub fits : o + length (f (tokenAt s l i)) ≤ n
+
+-- bytes stand in a list from o on, and the place behind them is answered
+pub record Wrote (d : List ℕ) (o : ℕ) (bytes : List ℕ) (r : ℕ) (d′ : List ℕ) : Type 0 where
+  pub next : r ≡ o + length bytes
+  pub stored : d′ ≡ sets d o bytes
+
+pub record Rewritable (s : Sort) (rule : Rule) (l zero-side one-side : List ℕ) (n : ℕ) : Type 0 where
+  pub whole : Whole s l
+  pub fields : AllTokens (FieldedAt rule) (tokensOf s l)
+  pub room : length (spell (imageOf rule zero-side one-side) (tokensOf s l)) ≤ n
+
+-- the two sides of a boundary: a stack of the ends of the expressions that are still to come
+abbrev pub bit : End → ℕ
+bit lo = 0
+bit hi = 1
+
+abbrev pub plainSide : ℕ → Kind → ℕ → List ℕ
+plainSide e Nullary b = pick (eqb b (16 + e)) 1 0 ∷ []
+plainSide e Literal b = []
+plainSide e Unary b = []
+plainSide e Binary b = pick (eqb b 20) (5 - e) (4 + e) ∷ []
+plainSide e Unknown b = []
+
+abbrev pub sideBytes : ℕ → Token → List ℕ
+sideBytes e (plain b) = plainSide e (kindOf Intervals b) b
+sideBytes e (literal b n) = (2 + e) ∷ dimBytes n
+
+abbrev pub pushKind : Kind → End → List End → List End
+pushKind Nullary e es = es
+pushKind Literal e es = es
+pushKind Unary e es = other e ∷ es
+pushKind Binary e es = e ∷ e ∷ es
+pushKind Unknown e es = es
+
+abbrev pub pushed : Token → End → List End → List End
+pushed (plain b) e es = pushKind (kindOf Intervals b) e es
+pushed (literal b n) e es = es
+
+unfoldable pub sides : List Token → List End → List ℕ
+sides [] es = []
+sides (t ∷ ts) [] = []
+sides (t ∷ ts) (e ∷ es) = sideBytes (bit e) t ++ sides ts (pushed t e es)
+
+-- the stack in an array: the ends of its first n bytes, the last on top
+abbrev pub endOf : ℕ → End
+endOf zero = lo
+endOf (suc n) = hi
+
+unfoldable pub stackOf : List ℕ → ℕ → List End
+stackOf l zero = []
+stackOf l (suc n) = endOf (getD l n 0) ∷ stackOf l n
+
+abbrev pub Bits : List ℕ → Type 0
+Bits l = (i : ℕ) → getD l i 0 ≤ 1
+
+-- how many expressions are to come after a node, of those that were to come before it
+abbrev pub pendingBy : Kind → ℕ → ℕ
+pendingBy Nullary p = p - 1
+pendingBy Literal p = p - 1
+pendingBy Unary p = p
+pendingBy Binary p = p + 1
+pendingBy Unknown p = p - 1
+
+pub record Pushed (k : Kind) (e : ℕ) (l : List ℕ) (top r : ℕ) (l′ : List ℕ) : Type 0 where
+  pub stack : stackOf l′ r ≡ pushKind k (endOf e) (stackOf l top)
+  pub bits : Bits l → Bits l′
+  pub size : length l′ ≡ length l
+  pub count : r ≡ pendingBy k (top + 1)
+
+pub record Sided (l : List ℕ) (e n : ℕ) : Type 0 where
+  pub whole : Whole Intervals l
+  pub end : e ≤ 1
+  pub room : length (sides (tokensOf Intervals l) (endOf e ∷ [])) ≤ n

@@ -1,0 +1,3 @@
+pub mod Replying
+pub mod Asking
+pub mod Ending

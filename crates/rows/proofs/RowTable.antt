@@ -1,0 +1,87 @@
+-- The rows as bytes: each byte is read back as its item, and each row is found between its start and the next.
+use mathlib.Core.Path.{_≡_, refl, sym, ap, _∙_}
+use mathlib.Core.Bool.{Bool, true, _&&_, and-eq-true-iff}
+use mathlib.Core.List.{List, [], _∷_, _++_, map}
+use Prim.Native.Nat.{ℕ, zero, suc, _+_, _-_, _*_, _/_, _%_, _≤_, _<_}
+use native.Mathlib.Omega.{arith}
+use borrow.Author.Tests.{eqb-true}
+use lib.Dec.{eqb}
+use lib.ListN.{length, getD, List·getD-map, List·getD-append}
+use lib.Seq.{getD-append-add}
+use Rattle.calculus.proofs.Rows.{rows}
+use Rattle.kinds.proofs.TableLaws.{valuesOf, values-at, rows-at}
+use Rattle.rows.specs.Items.{Item, item}
+use Rattle.rows.specs.Flattening.{flatF, flatI, fronts, flatFaces, itemsOf, rowItems, rowStarts, rowBytes, joined, rowLines, lineAt}
+
+-- The computed test: what each byte stands for.
+table-items : map item rowBytes ≡ rowItems rows
+unfolding rowBytes rowItems itemsOf flatF flatI fronts flatFaces rows item
+table-items = refl
+
+pub table-length : length (rowItems rows) ≡ 1540
+unfolding rowItems itemsOf flatF flatI fronts flatFaces rows
+table-length = refl
+
+pub table-item : (b i : ℕ) → b ≡ getD rowBytes i 0 → item b ≡ getD (rowItems rows) i (item 0)
+table-item b i e = ap item e ∙ sym (List·getD-map item rowBytes i 0) ∙ ap (λ (is : List Item). getD is i (item 0)) table-items
+
+-- Has each line n numbers?
+unfoldable pub allWide : ℕ → List (List ℕ) → Bool
+allWide n [] = true
+allWide n (r ∷ t) = eqb (length r) n && allWide n t
+
+-- Numbers in lines of one length: the one at a place of a line, whatever stands for a line that is missing.
+module _ (n : ℕ) (e : List ℕ) where
+  joined-at : (t : List (List ℕ)) (a b : ℕ) → allWide n t ≡ true → a < length t → b < n → getD (getD t a e) b 0 ≡ getD (joined t) (a * n + b) 0
+  unfolding allWide joined
+  joined-at [] a b w h i = absurd (omega arith)
+  joined-at (r ∷ t) zero b w h i =
+      let z : zero * n + b ≡ b = omega arith in
+      let k = eqb-true (length r) n (and-eq-true-iff (eqb (length r) n) (allWide n t) .0 w .0) in
+      sym (ap (λ (k : ℕ). getD (r ++ joined t) k 0) z ∙ List·getD-append r (joined t) 0 b (omega arith))
+  joined-at (r ∷ t) (suc a) b w h i =
+      let v = and-eq-true-iff (eqb (length r) n) (allWide n t) .0 w in
+      let k = eqb-true (length r) n (v .0) in
+      let z : suc a * n + b ≡ length r + (a * n + b) = omega arith in
+      joined-at t a b (v .1) (omega arith) i ∙ sym (ap (λ (k : ℕ). getD (r ++ joined t) k 0) z ∙ getD-append-add r (joined t) (a * n + b) 0)
+
+-- A table that lists the lines from b on.
+pub lines-at : (b n i : ℕ) (e : List ℕ) → b ≤ i → i < b + n → getD (valuesOf (λ j. lineAt (b + j)) 0 n) (i - b) e ≡ lineAt i
+lines-at b n i e h k = let z : b + (i - b) ≡ i = omega arith in values-at (λ j. lineAt (b + j)) n (i - b) e (omega arith) ∙ ap lineAt z
+
+-- Numbers with ten to a line.
+pub tens-at : (e : List ℕ) (t : List (List ℕ)) (i : ℕ) → allWide 10 t ≡ true → i / 10 < length t → getD (getD t (i / 10) e) (i % 10) 0 ≡ getD (joined t) i 0
+tens-at e t i w h = let z : i / 10 * 10 + i % 10 ≡ i = omega arith in joined-at 10 e t (i / 10) (i % 10) w h (omega arith) ∙ ap (λ (k : ℕ). getD (joined t) k 0) z
+
+-- The computed tests: ten to a line, and the lines are the bytes.
+lines-wide : allWide 10 (rowLines rows) ≡ true
+unfolding allWide rowLines flatF flatI fronts flatFaces rows
+lines-wide = refl
+
+lines-bytes : joined (rowLines rows) ≡ rowBytes
+unfolding joined rowLines rowBytes rowItems itemsOf flatF flatI fronts flatFaces rows
+lines-bytes = refl
+
+lines-length : length (rowLines rows) ≡ 154
+unfolding rowLines rows
+lines-length = refl
+
+pub line-byte : (i : ℕ) → i < 1540 → getD (lineAt (i / 10)) (i % 10) 0 ≡ getD rowBytes i 0
+unfolding lineAt
+line-byte i h = tens-at [] (rowLines rows) i lines-wide (omega (arith, lines-length)) ∙ ap (λ (l : List ℕ). getD l i 0) lines-bytes
+
+-- The first lines of the rows.
+unfoldable pub firsts : List ℕ
+firsts = map (λ n. n / 10) (rowStarts 0 rows)
+
+-- The computed test: a row starts with a line.
+starts-tens : map (λ n. 10 * n) firsts ≡ rowStarts 0 rows
+unfolding firsts rowStarts itemsOf flatF flatI fronts flatFaces rows
+starts-tens = refl
+
+-- A table of the first lines, ten to a line, tells where the rows start.
+pub start-at : (e : List ℕ) (k : ℕ) → k < 80 → 10 * getD (getD (valuesOf (λ j. valuesOf (λ i. getD firsts (j * 10 + i) 0) 0 10) 0 8) (k / 10) e) (k % 10) 0 ≡ getD (rowStarts 0 rows) k 0
+start-at e k h =
+    let z : k / 10 * 10 + k % 10 ≡ k = omega arith in
+    ap (λ (n : ℕ). 10 * n) (rows-at (λ j i. getD firsts (j * 10 + i) 0) 8 10 (k / 10) (k % 10) e 0 (omega arith) (omega arith) ∙ ap (λ (n : ℕ). getD firsts n 0) z)
+    ∙ sym (List·getD-map (λ n. 10 * n) firsts k 0) ∙ ap (λ (l : List ℕ). getD l k 0) starts-tens
