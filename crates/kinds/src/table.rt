@@ -1,6 +1,13 @@
 // The table of kinds (document 01: "Each kind has a fixed name, reference count and predicate"), and the fields of the predicates.
 use crate::Entry;
 use crate::Field;
+use crate::Field::Context;
+use crate::Field::End;
+use crate::Field::Face;
+use crate::Field::Index;
+use crate::Field::Interval;
+use crate::Field::Nothing as __;
+use crate::Field::Number;
 ghost use mathlib.Core.Path.{_≡_};
 ghost use Prim.Native.Nat.{_+_, _≤_, _<_};
 ghost use lib.ListN.{length, getD};
@@ -170,38 +177,23 @@ const NAMES: [u8; 764] = *b"\
     fsubst.and\
     fsubst.or";
 
-// The fields of the predicates.
+// The fields of the predicates, in document 01's printed order.
 const FIELDS: [[Field; 4]; 15] = [
-    [Field::Number, Field::Number, Field::Nothing, Field::Nothing],
-    [Field::Number, Field::Number, Field::Nothing, Field::Nothing],
-    [
-        Field::Number,
-        Field::Interval,
-        Field::Nothing,
-        Field::Nothing,
-    ],
-    [Field::Number, Field::Face, Field::Nothing, Field::Nothing],
-    [Field::Face, Field::Context, Field::Nothing, Field::Nothing],
-    [Field::Context, Field::Face, Field::Context, Field::Nothing],
-    [Field::Context, Field::Face, Field::Nothing, Field::Nothing],
-    [Field::Number, Field::Face, Field::Face, Field::Nothing],
-    [Field::Interval, Field::Face, Field::Face, Field::Nothing],
-    [Field::Number, Field::Face, Field::Interval, Field::End],
-    [Field::Face, Field::Index, Field::Face, Field::Nothing],
-    [
-        Field::Interval,
-        Field::Index,
-        Field::Interval,
-        Field::Nothing,
-    ],
-    [
-        Field::Interval,
-        Field::Index,
-        Field::Interval,
-        Field::Interval,
-    ],
-    [Field::Face, Field::Index, Field::Face, Field::Nothing],
-    [Field::Face, Field::Index, Field::Interval, Field::Face],
+    [Number, Number, __, __], // lt
+    [Number, Number, __, __], // le
+    [Number, Interval, __, __], // interval
+    [Number, Face, __, __], // face
+    [Face, Context, __, __], // member
+    [Context, Face, Context, __], // take
+    [Context, Face, __, __], // cover
+    [Number, Face, Face, __], // entails
+    [Interval, Face, Face, __], // boundary
+    [Number, Face, Interval, End], // local
+    [Face, Index, Face, __], // fforall
+    [Interval, Index, Interval, __], // ishift
+    [Interval, Index, Interval, Interval], // isubst
+    [Face, Index, Face, __], // fshift
+    [Face, Index, Interval, Face], // fsubst
 ];
 
 // The row of a kind.

@@ -11,7 +11,7 @@ use lib.Seq.{getD-append-add}
 use Rattle.calculus.proofs.Rows.{rows}
 use Rattle.kinds.proofs.TableLaws.{valuesOf, values-at, rows-at}
 use Rattle.rows.specs.Items.{Item, item}
-use Rattle.rows.specs.Flattening.{flatF, flatI, fronts, flatFaces, itemsOf, rowItems, rowStarts, rowBytes, joined, rowLines, lineAt}
+use Rattle.rows.specs.Flattening.{flatF, flatI, fronts, flatFaces, itemsOf, rowItems, rowStarts, rowBytes, joined, rowLines, lineAt, Inside}
 
 -- The computed test: what each byte stands for.
 table-items : map item rowBytes ≡ rowItems rows
@@ -22,11 +22,11 @@ pub table-length : length (rowItems rows) ≡ 1540
 unfolding rowItems itemsOf flatF flatI fronts flatFaces rows
 table-length = refl
 
-pub table-item : (b i : ℕ) → b ≡ getD rowBytes i 0 → item b ≡ getD (rowItems rows) i (item 0)
+table-item : (b i : ℕ) → b ≡ getD rowBytes i 0 → item b ≡ getD (rowItems rows) i (item 0)
 table-item b i e = ap item e ∙ sym (List·getD-map item rowBytes i 0) ∙ ap (λ (is : List Item). getD is i (item 0)) table-items
 
 -- Has each line n numbers?
-unfoldable pub allWide : ℕ → List (List ℕ) → Bool
+unfoldable allWide : ℕ → List (List ℕ) → Bool
 allWide n [] = true
 allWide n (r ∷ t) = eqb (length r) n && allWide n t
 
@@ -50,7 +50,7 @@ pub lines-at : (b n i : ℕ) (e : List ℕ) → b ≤ i → i < b + n → getD (
 lines-at b n i e h k = let z : b + (i - b) ≡ i = omega arith in values-at (λ j. lineAt (b + j)) n (i - b) e (omega arith) ∙ ap lineAt z
 
 -- Numbers with ten to a line.
-pub tens-at : (e : List ℕ) (t : List (List ℕ)) (i : ℕ) → allWide 10 t ≡ true → i / 10 < length t → getD (getD t (i / 10) e) (i % 10) 0 ≡ getD (joined t) i 0
+tens-at : (e : List ℕ) (t : List (List ℕ)) (i : ℕ) → allWide 10 t ≡ true → i / 10 < length t → getD (getD t (i / 10) e) (i % 10) 0 ≡ getD (joined t) i 0
 tens-at e t i w h = let z : i / 10 * 10 + i % 10 ≡ i = omega arith in joined-at 10 e t (i / 10) (i % 10) w h (omega arith) ∙ ap (λ (k : ℕ). getD (joined t) k 0) z
 
 -- The computed tests: ten to a line, and the lines are the bytes.
@@ -66,9 +66,17 @@ lines-length : length (rowLines rows) ≡ 154
 unfolding rowLines rows
 lines-length = refl
 
-pub line-byte : (i : ℕ) → i < 1540 → getD (lineAt (i / 10)) (i % 10) 0 ≡ getD rowBytes i 0
+line-byte : (i : ℕ) → i < 1540 → getD (lineAt (i / 10)) (i % 10) 0 ≡ getD rowBytes i 0
 unfolding lineAt
 line-byte i h = tens-at [] (rowLines rows) i lines-wide (omega (arith, lines-length)) ∙ ap (λ (l : List ℕ). getD l i 0) lines-bytes
+
+-- A byte that is read off its line stands for its item.
+pub line-item : (b i : ℕ) (line : List ℕ) → i < 1540 → line ≡ lineAt (i / 10) → b ≡ getD line (i % 10) 0 → item b ≡ getD (rowItems rows) i (item 0)
+line-item b i line h e f = table-item b i (f ∙ ap (λ (l : List ℕ). getD l (i % 10) 0) e ∙ line-byte i h)
+
+-- The line of the byte behind is the same, unless a new one begins.
+pub inside-next : (line : List ℕ) (i : ℕ) → line ≡ lineAt (i / 10) → Inside line (i + 1)
+inside-next line i e n = let z : i / 10 ≡ (i + 1) / 10 = omega arith in e ∙ ap lineAt z
 
 -- The first lines of the rows.
 unfoldable pub firsts : List ℕ

@@ -1,7 +1,8 @@
 -- Definitions that only the contracts of private functions cite; no public contract rests on them.
 -- Here: the rows of the calculus as items.
+use mathlib.Core.Path.{_≡_}
 use mathlib.Core.List.{List, [], _∷_, _++_, map}
-use Prim.Native.Nat.{ℕ, suc, _+_, _-_, _*_}
+use Prim.Native.Nat.{ℕ, suc, _+_, _-_, _*_, _/_, _%_}
 use lib.ListN.{length, getD, replicate}
 use Rattle.formula.specs.Formula.{lo, hi, ff, i0}
 use Rattle.formula.specs.Bytes.{dimBytes}
@@ -132,3 +133,7 @@ rowLines (r ∷ rs) = map lineOf (conclusion r ∷ premises r) ++ rowLines rs
 -- Line i of the rules.
 unfoldable pub lineAt : ℕ → List ℕ
 lineAt i = getD (rowLines rows) i []
+
+-- The line holds byte i of the rows, unless that begins a line.
+abbrev pub Inside : List ℕ → ℕ → Type 0
+Inside line i = (i % 10 ≡ 0 → ⊥) → line ≡ lineAt (i / 10)

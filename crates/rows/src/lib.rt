@@ -2,10 +2,10 @@
 // predicate and its operands as document 01 prints them; a line has ten tokens. One constant for each group of predicates: the
 // compiler copies a constant where it is used, and the checker takes long over large ones.
 ghost use mathlib.Core.Path.{_≡_};
-ghost use Prim.Native.Nat.{_≤_, _<_};
+ghost use Prim.Native.Nat.{_/_, _%_, _≤_, _<_};
 ghost use lib.ListN.{getD};
 ghost use Rattle.calculus.proofs.Rows.{rows};
-ghost use Rattle.rows.specs.Flattening.{lineAt, rowBytes, rowStarts};
+ghost use Rattle.rows.specs.Flattening.{lineAt, rowStarts, Inside};
 
 // The predicates, each at the head of its judgement.
 const LT: u8 = 96;
@@ -404,19 +404,21 @@ fn line_of(i: usize) -> [u8; 10]
     face_transform_line(i)
 }
 
-// Byte i of the rows, line by line.
-pub fn row_byte(i: usize) -> u8
-    requires { ⌜ i < 1540 ⌝ }
-    ensures { λ r. ⌜ r ≡ getD rowBytes i 0 ⌝ }
+// The line in which byte i of the rows stands, by the line of the byte before it.
+pub fn next_line(line: [u8; 10], i: usize) -> [u8; 10]
+    requires { ⌜ (i < 1540) × Inside line i ⌝ }
+    ensures { λ r. ⌜ r ≡ lineAt (i / 10) ⌝ }
 {
-    let line = line_of(i / 10);
-    line[i % 10]
+    if i % 10 == 0 {
+        return line_of(i / 10);
+    }
+    line
 }
 
 // Where the row of kind k + 1 starts.
 pub fn row_start(k: usize) -> usize
     requires { ⌜ k < 76 ⌝ }
-    ensures { λ r. ⌜ r ≡ getD (rowStarts 0 rows) k 0 ⌝ }
+    ensures { λ r. ⌜ (r ≡ getD (rowStarts 0 rows) k 0) × (r % 10 ≡ 0) ⌝ }
 {
     let firsts = FIRSTS[k / 10];
     10 * wide(firsts[k % 10])

@@ -3,7 +3,8 @@ mod reach;
 mod slots;
 mod tokens;
 
-ghost use Prim.Native.Nat.{_+_, _≤_};
+ghost use mathlib.Core.Path.{_≡_};
+ghost use Prim.Native.Nat.{_+_, _%_, _≤_};
 ghost use Rattle.calculus.proofs.Rows.{rows};
 ghost use Rattle.rules.specs.Standing.{part, Lies, Decides, Ruled};
 ghost use Rattle.rows.specs.Items.{item, claim};
@@ -100,7 +101,7 @@ fn match_row(
     to: &[usize; 4],
     n: usize,
 ) -> bool
-    requires { ⌜ Lies (now l) (now from) (now to) n × (start ≤ stop) × (stop ≤ 1540) ⌝ }
+    requires { ⌜ Lies (now l) (now from) (now to) n × (start ≤ stop) × (stop ≤ 1540) × (start % 10 ≡ 0) ⌝ }
     ensures { λ r. ⌜ Decides r (Matched (part (rowItems rows) start stop) (claims (now (l .entry)) (now (preds .entry)) (now (from .entry)) (now (to .entry)) n 0)) ⌝ }
 {
     let mut env: [usize; 64] = [0; 64];
@@ -110,9 +111,11 @@ fn match_row(
         left: 0,
         j: 0,
     };
+    let mut line = [81u8; 10];
     let mut i = start;
     while i < stop {
-        let b = rows::wide(rows::row_byte(i));
+        line = rows::next_line(line, i);
+        let b = rows::wide(line[i % 10]);
         let Turn::To(p) = one_byte(l, &mut env, b, q, preds, from, to, n) else {
             return false;
         };

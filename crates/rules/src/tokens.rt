@@ -98,6 +98,9 @@ pub(crate) fn one_token(
     requires { ⌜ (at ≤ end) × (end ≤ length (now l)) × Some (now l) (now env) ⌝ }
     ensures { λ r. ⌜ Moves (token b) at end left (now (l .entry)) (now (env .entry)) r (now (env .exit)) ⌝ }
 {
+    if 80 < b {
+        return Next::Move(at, left);
+    }
     if b < 32 {
         return byte_token(l, b, at, end, left);
     }
@@ -112,9 +115,6 @@ pub(crate) fn one_token(
     }
     if b < 80 {
         return count_token(l, b - 72, at, end, left);
-    }
-    if 80 < b {
-        return Next::Move(at, left);
     }
     if left != 0 {
         return Next::Stop;

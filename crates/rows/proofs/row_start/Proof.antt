@@ -25,7 +25,7 @@ mul-result c = search needs
 
 returns : tie.Need-returns
 unfolding firsts rowStarts itemsOf flatF flatI fronts flatFaces rows
-returns c = ap (λ (n : ℕ). 10 * n) (c .wide .ensures .0) ∙ start-at _ (c .before .before .args .k) (omega arith)
+returns c = (ap (λ (n : ℕ). 10 * n) (c .wide .ensures .0) ∙ start-at _ (c .before .before .args .k) (omega arith), omega arith)
 
 pub row-start-spec : {M : Type 1} → statement M
 row-start-spec =
