@@ -3,28 +3,16 @@ use formula::Sort;
 use replies::Answer;
 use replies::Gate;
 ghost use mathlib.Core.List.{[]};
-ghost use Prim.Native.Nat.{_≤_};
 ghost use Rattle.calculus.specs.Door.{face as faceCall, interval as intervalCall};
-ghost use Rattle.ledger.specs.Ledger.{Led};
-ghost use Rattle.steps.specs.Trees.{Known};
+ghost use Rattle.runs.specs.Calls.{boundedCall};
 ghost use Rattle.replies.specs.Replying.{said, Replies};
-ghost use Rattle.engine.specs.Calls.{boundedCall};
 
-// The call once questions 1 to 4 are answered.
-fn run(l: &mut [u8], sort: Sort, d: usize, f: &[u8]) -> Answer
-    requires { ⌜ Led (now l) × Known sort (now f) × (d ≤ 255) ⌝ }
-    ensures { λ r. ⌜ Replies (boundedCall sort d (now (f .entry))) (now (l .entry)) (said r) (now (l .exit)) [] ⌝ }
-{
-    let end = ledger::used(l);
-    let r = steps::bounded(l, sort, d, f);
-    replies::ending(l, end, r)
-}
-
+// The call, over the sort.
 fn bounded(l: &mut [u8], sort: Sort, d: usize, f: &[u8]) -> Answer
     ensures { λ r. ⌜ Replies (boundedCall sort d (now (f .entry))) (now (l .entry)) (said r) (now (l .exit)) [] ⌝ }
 {
     match replies::one(l, sort, f, d <= 255) {
-        Gate::Open => run(l, sort, d, f),
+        Gate::Open => runs::bounded(l, sort, d, f),
         Gate::Shut(e) => Answer::Refused(e),
     }
 }

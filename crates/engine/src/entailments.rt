@@ -1,70 +1,18 @@
 // entails and endpoint.
 use formula::Sort;
-use operations::Outcome;
 use replies::Answer;
 use replies::Gate;
-use replies::Refusal;
 ghost use mathlib.Core.List.{[]};
-ghost use Prim.Native.Nat.{_≤_};
 ghost use Rattle.calculus.specs.Door.{endpoint as endpointCall, entails as entailsCall};
-ghost use Rattle.ledger.specs.Ledger.{Led};
-ghost use Rattle.steps.specs.Trees.{Known};
-ghost use Rattle.steps.specs.Programs.{Sides};
 ghost use Rattle.replies.specs.Replying.{said, Replies};
-
-// The call once questions 1 to 4 are answered.
-fn run_entails(l: &mut [u8], d: usize, a: &[u8], b: &[u8]) -> Answer
-    requires { ⌜ Led (now l) × (d ≤ 255) × Known Sort.Faces (now a) × Known Sort.Faces (now b) ⌝ }
-    ensures { λ r. ⌜ Replies (entailsCall d (now (a .entry)) (now (b .entry))) (now (l .entry)) (said r) (now (l .exit)) [] ⌝ }
-{
-    let end = ledger::used(l);
-    let r = implications::entails(l, d, a, b);
-    replies::ending(l, end, r)
-}
 
 // The step that the face a implies the face b over d; 8 where a dimension is not below d, 9 where it does not.
 pub fn entails(l: &mut [u8], d: usize, a: &[u8], b: &[u8]) -> Answer
     ensures { λ r. ⌜ Replies (entailsCall d (now (a .entry)) (now (b .entry))) (now (l .entry)) (said r) (now (l .exit)) [] ⌝ }
 {
     match replies::two(l, Sort::Faces, a, Sort::Faces, b, d <= 255) {
-        Gate::Open => run_entails(l, d, a, b),
+        Gate::Open => runs::entails(l, d, a, b),
         Gate::Shut(e) => Answer::Refused(e),
-    }
-}
-
-// The call once the faces of r are made.
-fn run_endpoint(
-    l: &mut [u8],
-    d: usize,
-    phi: &[u8],
-    r: &[u8],
-    zero: &[u8],
-    one: &[u8],
-    hi: bool,
-) -> Answer
-    requires { ⌜ Led (now l) × (d ≤ 255) × Known Sort.Faces (now phi) × Known Sort.Intervals (now r) × Sides (now r) (now zero) (now one) ⌝ }
-    ensures { λ x. ⌜ Replies (endpointCall d (now (phi .entry)) (now (r .entry)) hi) (now (l .entry)) (said x) (now (l .exit)) [] ⌝ }
-{
-    let end = ledger::used(l);
-    let x = implications::endpoint(l, d, phi, r, zero, one, hi);
-    replies::ending(l, end, x)
-}
-
-// The call once questions 1 to 4 are answered. The faces of an interval within the limits are within them.
-fn with_faces(l: &mut [u8], d: usize, phi: &[u8], r: &[u8], hi: bool) -> Answer
-    requires { ⌜ Led (now l) × (d ≤ 255) × Known Sort.Faces (now phi) × Known Sort.Intervals (now r) ⌝ }
-    ensures { λ x. ⌜ Replies (endpointCall d (now (phi .entry)) (now (r .entry)) hi) (now (l .entry)) (said x) (now (l .exit)) [] ⌝ }
-{
-    let mut zero = [0u8; 1024];
-    let mut one = [0u8; 1024];
-    match operations::boundary(r, &mut zero, &mut one) {
-        Outcome::Done(z) => {
-            let n = z.len;
-            run_endpoint(l, d, phi, r, &zero[..n], &one[..n], hi)
-        }
-        Outcome::Over => Answer::Refused(Refusal::LargeResult),
-        Outcome::Short(_) => Answer::Refused(Refusal::LargeResult),
-        Outcome::Ill => Answer::Refused(Refusal::NotAFormula),
     }
 }
 
@@ -73,7 +21,7 @@ pub fn endpoint(l: &mut [u8], d: usize, phi: &[u8], r: &[u8], one: bool) -> Answ
     ensures { λ x. ⌜ Replies (endpointCall d (now (phi .entry)) (now (r .entry)) one) (now (l .entry)) (said x) (now (l .exit)) [] ⌝ }
 {
     match replies::two(l, Sort::Faces, phi, Sort::Intervals, r, d <= 255) {
-        Gate::Open => with_faces(l, d, phi, r, one),
+        Gate::Open => runs::endpoint(l, d, phi, r, one),
         Gate::Shut(e) => Answer::Refused(e),
     }
 }

@@ -3,7 +3,6 @@ use Rattle.rules.proofs.match_row.Tie as tie
 use native.Mathlib.Omega.{arith}
 use borrow.Author.Needs.{needs}
 use Prim.Native.Nat.{_-_}
-use mathlib.Core.Path.{_∙_}
 use Rattle.calculus.proofs.Rows.{rows}
 use Rattle.rows.specs.Flattening.{rowItems, Inside}
 use Rattle.rows.proofs.RowTable.{table-length, line-item, inside-next}

@@ -6,7 +6,7 @@ use native.Mathlib.Omega.{arith}
 use Rattle.formula.specs.declared.Sort.the-variants.{Intervals}
 use Rattle.calculus.proofs.Fields.{below-each}
 use Rattle.replies.proofs.GateLaws.{one-open}
-use Rattle.engine.proofs.SideLaws.{sides-refused}
+use Rattle.runs.proofs.SideLaws.{sides-refused}
 
 one-requires : tie.Need-one-requires
 one-requires c κs = search needs
@@ -14,8 +14,8 @@ one-requires c κs = search needs
 enum-told : tie.Need-enum-told
 enum-told c = search needs
 
-computed-requires : tie.Need-computed-requires
-computed-requires c κs = let p = c .before .before .before .before .before .before .before .before .before .before .before .args in let x = one-open Intervals (p .r .now) (p .l .now) _ (below-each 256 (p .l .now) (λ i h. omega (arith, c .before .before .before .before .before .before .before .before .before .before .slice-known .given i))) (sym (c .before .before .before .before .before .one .ensures) ∙ c .before .before .before .enum-told .given .1) in (x .0, x .1)
+boundary-requires : tie.Need-boundary-requires
+boundary-requires c κs = let p = c .before .before .before .before .before .before .before .before .before .before .before .args in let x = one-open Intervals (p .r .now) (p .l .now) _ (below-each 256 (p .l .now) (λ i h. omega (arith, c .before .before .before .before .before .before .before .before .before .before .slice-known .given i))) (sym (c .before .before .before .before .before .one .ensures) ∙ c .before .before .before .enum-told .given .1) in (x .0, x .1)
 
 enum-known-e : tie.Need-enum-known-e
 enum-known-e c = search needs
@@ -44,7 +44,7 @@ boundary-spec =
     (tie.spec
     one-requires
     enum-told
-    computed-requires
+    boundary-requires
     enum-known-e
     same-length
     same-length-2

@@ -6,7 +6,7 @@ use native.Mathlib.Omega.{arith}
 use borrow.Author.Tests.{leb-true}
 use Rattle.calculus.proofs.Fields.{below-each}
 use Rattle.replies.proofs.GateLaws.{one-open}
-use Rattle.engine.proofs.BoundLaws.{bounded-refused}
+use Rattle.runs.proofs.BoundLaws.{bounded-refused}
 
 one-requires : tie.Need-one-requires
 one-requires c κs = search needs
@@ -14,8 +14,8 @@ one-requires c κs = search needs
 enum-told : tie.Need-enum-told
 enum-told c = search needs
 
-run-requires : tie.Need-run-requires
-run-requires c κs = let p = c .before .before .before .before .before .before .before .args in let x = one-open (p .sort) (p .f .now) (p .l .now) _ (below-each 256 (p .l .now) (λ i h. omega (arith, c .before .before .before .before .before .before .slice-known .given i))) (sym (c .before .before .before .one .ensures) ∙ c .before .enum-told .given .1) in (x .0, x .1, leb-true (p .d) 255 (x .2))
+bounded-requires : tie.Need-bounded-requires
+bounded-requires c κs = let p = c .before .before .before .before .before .before .before .args in let x = one-open (p .sort) (p .f .now) (p .l .now) _ (below-each 256 (p .l .now) (λ i h. omega (arith, c .before .before .before .before .before .before .slice-known .given i))) (sym (c .before .before .before .one .ensures) ∙ c .before .enum-told .given .1) in (x .0, x .1, leb-true (p .d) 255 (x .2))
 
 enum-known-e : tie.Need-enum-known-e
 enum-known-e c = search needs
@@ -38,7 +38,7 @@ bounded-spec =
     (tie.spec
     one-requires
     enum-told
-    run-requires
+    bounded-requires
     enum-known-e
     same-length
     returns

@@ -7,7 +7,7 @@ use borrow.Author.Tests.{leb-true}
 use Rattle.formula.specs.declared.Sort.the-variants.{Faces, Intervals}
 use Rattle.calculus.proofs.Fields.{below-each}
 use Rattle.replies.proofs.GateLaws.{two-open}
-use Rattle.engine.proofs.ImplicationLaws.{endpoint-refused}
+use Rattle.runs.proofs.ImplicationLaws.{endpoint-refused}
 
 two-requires : tie.Need-two-requires
 two-requires c κs = search needs
@@ -15,8 +15,8 @@ two-requires c κs = search needs
 enum-told : tie.Need-enum-told
 enum-told c = search needs
 
-with-faces-requires : tie.Need-with-faces-requires
-with-faces-requires c κs = let p = c .before .before .before .before .before .before .before .before .args in let x = two-open Faces (p .phi .now) Intervals (p .r .now) (p .l .now) _ (below-each 256 (p .l .now) (λ i h. omega (arith, c .before .before .before .before .before .before .before .slice-known .given i))) (sym (c .before .before .before .two .ensures) ∙ c .before .enum-told .given .1) in (x .0, leb-true (p .d) 255 (x .3), x .1, x .2)
+endpoint-requires : tie.Need-endpoint-requires
+endpoint-requires c κs = let p = c .before .before .before .before .before .before .before .before .args in let x = two-open Faces (p .phi .now) Intervals (p .r .now) (p .l .now) _ (below-each 256 (p .l .now) (λ i h. omega (arith, c .before .before .before .before .before .before .before .slice-known .given i))) (sym (c .before .before .before .two .ensures) ∙ c .before .enum-told .given .1) in (x .0, leb-true (p .d) 255 (x .3), x .1, x .2)
 
 enum-known-e : tie.Need-enum-known-e
 enum-known-e c = search needs
@@ -39,7 +39,7 @@ endpoint-spec =
     (tie.spec
     two-requires
     enum-told
-    with-faces-requires
+    endpoint-requires
     enum-known-e
     same-length
     returns

@@ -6,7 +6,7 @@ use native.Mathlib.Omega.{arith}
 use borrow.Author.Tests.{ltb-true}
 use Rattle.calculus.proofs.Fields.{below-each}
 use Rattle.replies.proofs.GateLaws.{one-open}
-use Rattle.engine.proofs.IndexLaws.{shift-refused}
+use Rattle.runs.proofs.IndexLaws.{shift-refused}
 
 one-requires : tie.Need-one-requires
 one-requires c κs = search needs
@@ -14,8 +14,8 @@ one-requires c κs = search needs
 enum-told : tie.Need-enum-told
 enum-told c = search needs
 
-computed-requires : tie.Need-computed-requires
-computed-requires c κs = let p = c .before .before .before .before .before .before .before .before .before .args in let x = one-open (p .sort) (p .t .now) (p .l .now) _ (below-each 256 (p .l .now) (λ i h. omega (arith, c .before .before .before .before .before .before .before .before .slice-known .given i))) (sym (c .before .before .before .before .one .ensures) ∙ c .before .before .enum-told .given .1) in (x .0, x .1, ltb-true (p .k) 255 (x .2))
+transform-requires : tie.Need-transform-requires
+transform-requires c κs = let p = c .before .before .before .before .before .before .before .before .before .args in let x = one-open (p .sort) (p .t .now) (p .l .now) _ (below-each 256 (p .l .now) (λ i h. omega (arith, c .before .before .before .before .before .before .before .before .slice-known .given i))) (sym (c .before .before .before .before .one .ensures) ∙ c .before .before .enum-told .given .1) in (x .0, x .1, ltb-true (p .k) 255 (x .2))
 
 enum-known-e : tie.Need-enum-known-e
 enum-known-e c = search needs
@@ -41,7 +41,7 @@ shift-spec =
     (tie.spec
     one-requires
     enum-told
-    computed-requires
+    transform-requires
     enum-known-e
     same-length
     same-length-2

@@ -7,7 +7,7 @@ use borrow.Author.Tests.{ltb-true}
 use Rattle.formula.specs.declared.Sort.the-variants.{Intervals}
 use Rattle.calculus.proofs.Fields.{below-each}
 use Rattle.replies.proofs.GateLaws.{two-open}
-use Rattle.engine.proofs.IndexLaws.{substitute-refused}
+use Rattle.runs.proofs.IndexLaws.{substitute-refused}
 
 two-requires : tie.Need-two-requires
 two-requires c κs = search needs
@@ -15,8 +15,8 @@ two-requires c κs = search needs
 enum-told : tie.Need-enum-told
 enum-told c = search needs
 
-computed-requires : tie.Need-computed-requires
-computed-requires c κs = let p = c .before .before .before .before .before .before .before .before .before .before .args in let x = two-open (p .sort) (p .t .now) Intervals (p .r .now) (p .l .now) _ (below-each 256 (p .l .now) (λ i h. omega (arith, c .before .before .before .before .before .before .before .before .before .slice-known .given i))) (sym (c .before .before .before .before .two .ensures) ∙ c .before .before .enum-told .given .1) in (x .0, x .1, (ltb-true (p .k) 255 (x .3), x .2))
+transform-requires : tie.Need-transform-requires
+transform-requires c κs = let p = c .before .before .before .before .before .before .before .before .before .before .args in let x = two-open (p .sort) (p .t .now) Intervals (p .r .now) (p .l .now) _ (below-each 256 (p .l .now) (λ i h. omega (arith, c .before .before .before .before .before .before .before .before .before .slice-known .given i))) (sym (c .before .before .before .before .two .ensures) ∙ c .before .before .enum-told .given .1) in (x .0, x .1, (ltb-true (p .k) 255 (x .3), x .2))
 
 enum-known-e : tie.Need-enum-known-e
 enum-known-e c = search needs
@@ -42,7 +42,7 @@ substitute-spec =
     (tie.spec
     two-requires
     enum-told
-    computed-requires
+    transform-requires
     enum-known-e
     same-length
     same-length-2

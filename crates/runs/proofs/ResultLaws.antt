@@ -33,7 +33,7 @@ use Rattle.replies.specs.declared.Made.{Made}
 use Rattle.replies.specs.declared.Made.the-variants.{Refused as refusedMade}
 use Rattle.replies.specs.Replying.{measureOf, saidOne, Replies}
 use Rattle.replies.specs.Ending.{Ending, madeBy, outBy}
-use Rattle.engine.specs.Calls.{Result}
+use Rattle.runs.specs.Calls.{Result}
 use Rattle.replies.proofs.ReplyLaws.{finished, too-large, too-short, replied}
 
 -- What was computed: the result, or that it is over the limits.

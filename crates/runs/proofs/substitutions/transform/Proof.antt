@@ -1,11 +1,11 @@
 use borrow.Author.Needs.{needs}
-use Rattle.engine.proofs.substitutions.computed.Statement.{statement}
-use Rattle.engine.proofs.substitutions.computed.Tie as tie
+use Rattle.runs.proofs.substitutions.transform.Statement.{statement}
+use Rattle.runs.proofs.substitutions.transform.Tie as tie
 use mathlib.Core.Path.{sym}
 use native.Mathlib.Omega.{arith}
 use Rattle.transforms.proofs.ImageLaws.{room}
-use Rattle.engine.proofs.ResultLaws.{result-done, result-over, result-short, result-ill, one-large, one-short}
-use Rattle.engine.proofs.IndexLaws.{change-result, change-computed}
+use Rattle.runs.proofs.ResultLaws.{result-done, result-over, result-short, result-ill, one-large, one-short}
+use Rattle.runs.proofs.IndexLaws.{change-result, change-computed}
 
 slice-aggregate-transform : tie.Need-slice-aggregate-transform
 slice-aggregate-transform c = search needs
@@ -55,8 +55,8 @@ returns-4 c = let p = c .before .before .before .before .before .before .before 
 returns-5 : tie.Need-returns-5
 returns-5 c = let p = c .before .before .before .before .before .before .before .before .before .args in result-ill (change-computed (p .sort) (p .t .now) (p .r .now) (p .out .now) (p .op) (c .before .before .before .before .before .before .before .before .before .pre .1) (c .before .before .before .before .before .before .before .before .before .pre .2) room (c .before .before .before .transform .ensures)) (c .enum-told3 .given .1)
 
-pub computed-spec : {M : Type 1} → statement M
-computed-spec =
+pub transform-spec : {M : Type 1} → statement M
+transform-spec =
     tie.close
     (tie.spec
     slice-aggregate-transform

@@ -1,8 +1,8 @@
 use borrow.Author.Needs.{needs}
-use Rattle.engine.proofs.entailments.run_entails.Statement.{statement}
-use Rattle.engine.proofs.entailments.run_entails.Tie as tie
+use Rattle.runs.proofs.entailments.entails.Statement.{statement}
+use Rattle.runs.proofs.entailments.entails.Tie as tie
 use Rattle.replies.proofs.ReplyLaws.{end-inside}
-use Rattle.engine.proofs.ImplicationLaws.{entails-replies}
+use Rattle.runs.proofs.ImplicationLaws.{entails-replies}
 
 used-requires : tie.Need-used-requires
 used-requires c κs = search needs
@@ -19,6 +19,6 @@ same-length c = search needs
 returns : tie.Need-returns
 returns c = let p = c .before .before .before .before .before .before .before .before .before .before .before .before .before .args in entails-replies (p .d) (p .a .now) (p .b .now) (c .before .before .before .before .before .before .before .before .before .before .before .before .before .pre .0) (c .before .before .before .before .before .before .before .before .before .before .before .before .before .pre .1) (c .before .before .before .before .before .before .before .before .before .before .before .before .before .pre .2) (c .before .before .before .before .before .before .before .before .before .before .before .before .before .pre .3) (c .before .before .before .before .before .before .entails .ensures) (c .before .before .before .before .before .before .before .before .used .ensures) (c .before .before .ending .ensures)
 
-pub run-entails-spec : {M : Type 1} → statement M
-run-entails-spec =
+pub entails-spec : {M : Type 1} → statement M
+entails-spec =
     tie.close (tie.spec used-requires entails-requires ending-requires same-length returns)

@@ -1,6 +1,6 @@
 use borrow.Author.Needs.{needs}
-use Rattle.engine.proofs.entailments.with_faces.Statement.{statement}
-use Rattle.engine.proofs.entailments.with_faces.Tie as tie
+use Rattle.runs.proofs.entailments.endpoint.Statement.{statement}
+use Rattle.runs.proofs.entailments.endpoint.Tie as tie
 use mathlib.Core.Path.{ap, sym}
 use lib.Seq.{length-take-le}
 use Rattle.transforms.proofs.ImageLaws.{resulted, room, sides-made, zero-front, one-front, sides-front}
@@ -56,8 +56,8 @@ returns-3 c = sides-made (c .before .before .before .before .before .before .bef
 returns-4 : tie.Need-returns-4
 returns-4 c = sides-made (c .before .before .before .before .before .before .before .before .before .before .pre .3) room room (c .before .before .before .before .boundary .ensures) (ap resulted (c .enum-told3 .given .1))
 
-pub with-faces-spec : {M : Type 1} → statement M
-with-faces-spec =
+pub endpoint-spec : {M : Type 1} → statement M
+endpoint-spec =
     tie.close
     (tie.spec
     slice-aggregate-boundary

@@ -1,8 +1,8 @@
 use borrow.Author.Needs.{needs}
-use Rattle.engine.proofs.entailments.run_endpoint.Statement.{statement}
-use Rattle.engine.proofs.entailments.run_endpoint.Tie as tie
+use Rattle.runs.proofs.entailments.run_endpoint.Statement.{statement}
+use Rattle.runs.proofs.entailments.run_endpoint.Tie as tie
 use Rattle.replies.proofs.ReplyLaws.{end-inside}
-use Rattle.engine.proofs.ImplicationLaws.{endpoint-replies}
+use Rattle.runs.proofs.ImplicationLaws.{endpoint-replies}
 
 used-requires : tie.Need-used-requires
 used-requires c κs = search needs

@@ -1,8 +1,8 @@
 use borrow.Author.Needs.{needs}
-use Rattle.engine.proofs.bounds.run.Statement.{statement}
-use Rattle.engine.proofs.bounds.run.Tie as tie
+use Rattle.runs.proofs.bounds.bounded.Statement.{statement}
+use Rattle.runs.proofs.bounds.bounded.Tie as tie
 use Rattle.replies.proofs.ReplyLaws.{end-inside}
-use Rattle.engine.proofs.BoundLaws.{bounded-replies}
+use Rattle.runs.proofs.BoundLaws.{bounded-replies}
 
 used-requires : tie.Need-used-requires
 used-requires c κs = search needs
@@ -19,5 +19,5 @@ same-length c = search needs
 returns : tie.Need-returns
 returns c = let p = c .before .before .before .before .before .before .before .before .before .before .before .before .args in bounded-replies (p .sort) (p .d) (c .before .before .before .before .before .before .before .before .before .before .before .before .pre .0) (c .before .before .before .before .before .before .before .before .before .before .before .before .pre .1) (c .before .before .before .before .before .before .before .before .before .before .before .before .pre .2) (c .before .before .before .before .before .before .bounded .ensures) (c .before .before .before .before .before .before .before .before .used .ensures) (c .before .before .ending .ensures)
 
-pub run-spec : {M : Type 1} → statement M
-run-spec = tie.close (tie.spec used-requires bounded-requires ending-requires same-length returns)
+pub bounded-spec : {M : Type 1} → statement M
+bounded-spec = tie.close (tie.spec used-requires bounded-requires ending-requires same-length returns)

@@ -1,9 +1,9 @@
 use borrow.Author.Needs.{needs}
-use Rattle.engine.proofs.substitutions.run.Statement.{statement}
-use Rattle.engine.proofs.substitutions.run.Tie as tie
+use Rattle.runs.proofs.substitutions.run.Statement.{statement}
+use Rattle.runs.proofs.substitutions.run.Tie as tie
 use Rattle.replies.proofs.ReplyLaws.{end-inside}
-use Rattle.engine.proofs.ResultLaws.{one-made}
-use Rattle.engine.proofs.IndexLaws.{change-result}
+use Rattle.runs.proofs.ResultLaws.{one-made}
+use Rattle.runs.proofs.IndexLaws.{change-result}
 
 used-requires : tie.Need-used-requires
 used-requires c κs = search needs

@@ -33,10 +33,10 @@ use Rattle.replies.specs.declared.Refusal.{Refusal}
 use Rattle.replies.specs.declared.Made.the-variants.{Refused}
 use Rattle.replies.specs.declared.Gate.the-variants.{Shut}
 use Rattle.replies.specs.Replying.{saidOne, Replies}
-use Rattle.engine.specs.Calls.{transformCall}
+use Rattle.runs.specs.Calls.{transformCall}
 use Rattle.replies.specs.Asking.{ledgerGate, operandGate, operandsGate}
 use Rattle.replies.proofs.GateLaws.{OneOperand, one-shut, TwoOperands, two-shut}
-use Rattle.engine.proofs.ResultLaws.{Computed, computed, OneResult}
+use Rattle.runs.proofs.ResultLaws.{Computed, computed, OneResult}
 
 -- An index is low where it is below 255.
 low-index : (k : ℕ) → leb (suc k) 255 ≡ ltb k 255

@@ -1,8 +1,8 @@
 use borrow.Author.Needs.{needs}
-use Rattle.engine.proofs.boundaries.run.Statement.{statement}
-use Rattle.engine.proofs.boundaries.run.Tie as tie
+use Rattle.runs.proofs.boundaries.run.Statement.{statement}
+use Rattle.runs.proofs.boundaries.run.Tie as tie
 use Rattle.replies.proofs.ReplyLaws.{end-inside}
-use Rattle.engine.proofs.SideLaws.{both-made}
+use Rattle.runs.proofs.SideLaws.{both-made}
 
 used-requires : tie.Need-used-requires
 used-requires c κs = search needs

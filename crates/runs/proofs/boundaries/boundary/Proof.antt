@@ -1,10 +1,10 @@
 use borrow.Author.Needs.{needs}
-use Rattle.engine.proofs.boundaries.computed.Statement.{statement}
-use Rattle.engine.proofs.boundaries.computed.Tie as tie
+use Rattle.runs.proofs.boundaries.boundary.Statement.{statement}
+use Rattle.runs.proofs.boundaries.boundary.Tie as tie
 use mathlib.Core.Path.{ap, sym}
 use lib.Seq.{length-take-le}
 use Rattle.transforms.proofs.ImageLaws.{resulted, room, sides-made, sides-size, zero-front, one-front, sides-front}
-use Rattle.engine.proofs.SideLaws.{short-first, short-second, first-fits, second-fits}
+use Rattle.runs.proofs.SideLaws.{short-first, short-second, first-fits, second-fits}
 
 slice-aggregate-boundary : tie.Need-slice-aggregate-boundary
 slice-aggregate-boundary c = search needs
@@ -69,8 +69,8 @@ returns-5 c = sides-made (c .before .before .before .before .before .before .bef
 returns-6 : tie.Need-returns-6
 returns-6 c = sides-made (c .before .before .before .before .before .before .before .before .before .before .before .pre .1) room room (c .before .before .before .before .boundary .ensures) (ap resulted (c .enum-told3 .given .1))
 
-pub computed-spec : {M : Type 1} → statement M
-computed-spec =
+pub boundary-spec : {M : Type 1} → statement M
+boundary-spec =
     tie.close
     (tie.spec
     slice-aggregate-boundary

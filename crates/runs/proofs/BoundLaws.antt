@@ -23,7 +23,7 @@ use Rattle.replies.specs.declared.Answer.{Answer}
 use Rattle.replies.specs.declared.Answer.the-variants.{Refused}
 use Rattle.replies.specs.declared.Gate.the-variants.{Shut}
 use Rattle.replies.specs.Replying.{said, Replies}
-use Rattle.engine.specs.Calls.{boundedCall}
+use Rattle.runs.specs.Calls.{boundedCall}
 use Rattle.replies.specs.Asking.{ledgerGate, operandGate}
 use Rattle.replies.specs.Ending.{Ending}
 use Rattle.replies.proofs.GateLaws.{OneOperand, one-shut}

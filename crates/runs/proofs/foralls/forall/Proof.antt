@@ -1,11 +1,11 @@
 use borrow.Author.Needs.{needs}
-use Rattle.engine.proofs.foralls.computed.Statement.{statement}
-use Rattle.engine.proofs.foralls.computed.Tie as tie
+use Rattle.runs.proofs.foralls.forall.Statement.{statement}
+use Rattle.runs.proofs.foralls.forall.Tie as tie
 use mathlib.Core.Path.{sym}
 use native.Mathlib.Omega.{arith}
 use Rattle.transforms.proofs.ImageLaws.{room}
-use Rattle.engine.proofs.ResultLaws.{result-done, result-over, result-short, result-ill, one-large, one-short}
-use Rattle.engine.proofs.IndexLaws.{forall-result, forall-computed}
+use Rattle.runs.proofs.ResultLaws.{result-done, result-over, result-short, result-ill, one-large, one-short}
+use Rattle.runs.proofs.IndexLaws.{forall-result, forall-computed}
 
 slice-aggregate-forall : tie.Need-slice-aggregate-forall
 slice-aggregate-forall c = search needs
@@ -55,8 +55,8 @@ returns-4 c = let p = c .before .before .before .before .before .before .before 
 returns-5 : tie.Need-returns-5
 returns-5 c = let p = c .before .before .before .before .before .before .before .before .args in result-ill (forall-computed (p .f .now) (p .k) (p .out .now) (c .before .before .before .before .before .before .before .before .pre .1) room (c .before .before .before .forall .ensures)) (c .enum-told3 .given .1)
 
-pub computed-spec : {M : Type 1} → statement M
-computed-spec =
+pub forall-spec : {M : Type 1} → statement M
+forall-spec =
     tie.close
     (tie.spec
     slice-aggregate-forall

@@ -1,0 +1,5 @@
+pub mod BoundLaws
+pub mod ResultLaws
+pub mod SideLaws
+pub mod IndexLaws
+pub mod ImplicationLaws
