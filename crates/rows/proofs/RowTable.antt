@@ -11,7 +11,16 @@ use lib.Seq.{getD-append-add}
 use Rattle.calculus.proofs.Rows.{rows}
 use Rattle.kinds.proofs.TableLaws.{valuesOf, values-at, rows-at}
 use Rattle.rows.specs.Items.{Item, item}
-use Rattle.rows.specs.Flattening.{flatF, flatI, fronts, flatFaces, itemsOf, rowItems, rowStarts, rowBytes, joined, rowLines, lineAt, Inside}
+use Rattle.rows.specs.Flattening.{flatF, flatI, fronts, flatFaces, itemsOf, byteOf, rowItems, rowStarts, rowLines, lineAt, Inside}
+
+-- The rows of the calculus as bytes.
+unfoldable rowBytes : List ℕ
+rowBytes = map byteOf (rowItems rows)
+
+-- Lines one after another.
+unfoldable joined : List (List ℕ) → List ℕ
+joined [] = []
+joined (r ∷ rs) = r ++ joined rs
 
 -- The computed test: what each byte stands for.
 table-items : map item rowBytes ≡ rowItems rows

@@ -112,15 +112,6 @@ byteOf (inside (front k)) = 72 + k
 byteOf (inside done) = 80
 byteOf (inside pad) = 81
 
--- The rows of the calculus as bytes.
-unfoldable pub rowBytes : List ℕ
-rowBytes = map byteOf (rowItems rows)
-
--- Lines one after another.
-unfoldable pub joined : List (List ℕ) → List ℕ
-joined [] = []
-joined (r ∷ rs) = r ++ joined rs
-
 -- The bytes of a judgement's line.
 abbrev pub lineOf : JudP → List ℕ
 lineOf p = map byteOf (claim (patternNumber p) ∷ map inside (padded (flatJ p)))
