@@ -16,7 +16,8 @@ use Rattle.calculus.specs.Calls.{emitMember}
 use Rattle.calculus.proofs.Growing.{Limited}
 use Rattle.steps.specs.declared.Ran.{Ran}
 use Rattle.steps.specs.Running.{doneBy, stepBy, Runs, Emits}
-use Rattle.steps.specs.Trees.{Is, treeOf}
+use Rattle.steps.specs.Trees.{Is}
+use Rattle.formula.specs.Answers.{treeOf}
 use Rattle.steps.proofs.RunLaws.{emits-by}
 use Rattle.steps.proofs.TreeLaws.{tree-of, is-short}
 use Rattle.contexts.specs.Contexts.{Are}

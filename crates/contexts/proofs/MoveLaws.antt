@@ -8,11 +8,11 @@ use lib.ListN.{length, getD, take, drop}
 use Rattle.formula.specs.declared.Sort.the-variants.{Faces}
 use Rattle.formula.specs.Formula.{lo, hi, Face, ff, ft, at, fand, for}
 use Rattle.formula.specs.Bytes.{dimBytes, encodeFace, nodesFace, boundFace}
-use Rattle.formula.specs.Answers.{sameBytes, partAt}
+use Rattle.formula.specs.Answers.{sameBytes, partAt, treeOf}
 use Rattle.formula.proofs.Reading.{encode-pos}
 use Rattle.calculus.specs.Judgement.{sameFace}
 use Rattle.calculus.specs.Search.{Move, by-clash, stuck, _else_, provided, has, clashOf, tryClash, splitOf, tryLeft}
-use Rattle.steps.specs.Trees.{Is, treeOf, Known}
+use Rattle.steps.specs.Trees.{Is, Known}
 use Rattle.steps.proofs.TreeLaws.{tree-of, known}
 use Rattle.contexts.specs.declared.moves.Clash.{Clash}
 use Rattle.contexts.specs.declared.moves.Clash.the-variants.{Of, Free}

@@ -13,7 +13,8 @@ ghost use Rattle.calculus.specs.Record.{operandBytes};
 ghost use Rattle.calculus.specs.Emit.{emit};
 ghost use Rattle.ledger.specs.Ledger.{Led};
 ghost use Rattle.steps.specs.Running.{Runs, Emits};
-ghost use Rattle.steps.specs.Trees.{treeOf, Known};
+ghost use Rattle.formula.specs.Answers.{treeOf};
+ghost use Rattle.steps.specs.Trees.{Known};
 ghost use Rattle.contexts.specs.Contexts.{contextOf, Context};
 ghost use Rattle.contexts.specs.Moves.{coverBy, coverClash};
 

@@ -1,8 +1,7 @@
 // Left steps: where a face of a context lies, and the context without it.
 ghost use mathlib.Core.Path.{_≡_};
 ghost use mathlib.Core.List.{_++_};
-ghost use Prim.Native.Nat.{_+_, _≤_};
-ghost use Prim.Native.Nat.{suc};
+ghost use Prim.Native.Nat.{_+_, _≤_, suc};
 ghost use lib.ListN.{length, getD, take, drop};
 ghost use Rattle.formula.specs.Formula.{ff};
 ghost use Rattle.calculus.specs.Record.{facesBytes};

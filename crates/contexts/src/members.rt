@@ -6,7 +6,8 @@ ghost use Rattle.formula.specs.declared.Sort.the-variants.{Faces};
 ghost use Rattle.calculus.specs.Calls.{emitMember};
 ghost use Rattle.ledger.specs.Ledger.{Led};
 ghost use Rattle.steps.specs.Running.{Runs};
-ghost use Rattle.steps.specs.Trees.{treeOf, Known};
+ghost use Rattle.formula.specs.Answers.{treeOf};
+ghost use Rattle.steps.specs.Trees.{Known};
 ghost use Rattle.contexts.specs.Contexts.{contextOf, Context};
 
 // The step that f is in the context, from its first place; 9 where it is not.

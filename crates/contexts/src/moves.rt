@@ -4,7 +4,8 @@ ghost use mathlib.Core.Path.{_≡_};
 ghost use Prim.Native.Nat.{_≤_};
 ghost use Rattle.formula.specs.declared.Sort.the-variants.{Faces};
 ghost use Rattle.calculus.specs.Search.{has, clashOf, tryClash};
-ghost use Rattle.steps.specs.Trees.{treeOf, Known};
+ghost use Rattle.formula.specs.Answers.{treeOf};
+ghost use Rattle.steps.specs.Trees.{Known};
 ghost use Rattle.contexts.specs.Contexts.{contextOf, Context};
 ghost use Rattle.contexts.specs.Moves.{clashBy, FirstCompound};
 

@@ -19,13 +19,12 @@ use Rattle.calculus.proofs.Fields.{Allowed, operands-injective}
 use Rattle.calculus.proofs.Records.{ledger-length}
 use Rattle.kinds.specs.Kinds.{numberOf, predicateOf, entryAs}
 use Rattle.kinds.specs.declared.Entry.the-variants.{Listed, Unlisted}
-use Rattle.kinds.proofs.KindLaws.{numbered}
+use Rattle.kinds.proofs.KindLaws.{numbered, listed-same, not-unlisted}
 use Rattle.emission.specs.declared.Found.the-variants.{At, Absent}
 use Rattle.emission.specs.declared.Emitted.{Emitted}
 use Rattle.emission.specs.declared.Emitted.the-variants.{Full, Step as Number}
 use Rattle.ledger.specs.Ledger.{stepsOf, Led}
 use Rattle.emission.specs.Emitting.{sameStep, first, findBytes, foundAs, Stands, Appends, Ran, Emission, EmissionAs}
-use Rattle.kinds.proofs.KindLaws.{listed-same, not-unlisted}
 
 -- A number tells its predicate.
 number-injective : (p q : Pred) → numberOf p ≡ numberOf q → p ≡ q

@@ -103,7 +103,8 @@ fn filled(l: &mut [u8], a: &[u8], b: &[u8], at: usize) {
 
 // The first n bytes of the space, zeros but for the operands.
 fn lent(space: &mut [u8], n: usize, a: &[u8], b: &[u8], at: usize) {
-    stdio::clear(space);
+    let all = space.len();
+    records::clear(space, 0, all);
     if n <= space.len() {
         filled(&mut space[..n], a, b, at);
     }

@@ -2,13 +2,15 @@
 use Prim.Native.Nat.{ℕ, _+_, _-_}
 use mathlib.Core.Path.{_≡_}
 use mathlib.Core.Bool.{Bool, true, false, _&&_}
-use mathlib.Core.Option.{Option, none, some}
+use mathlib.Core.Option.{Option, none, some, Option·getD}
 use mathlib.Core.List.{List, [], _∷_}
 use lib.Dec.{leb, eqb}
 use lib.ListN.{length, getD, drop}
 use lib.Seq.{sets}
+use Rattle.formula.specs.Formula.{ff, i0}
 use Rattle.formula.specs.Bytes.{Tree, dimWidth, dimAt, encode, Node, leaf, lit, one, two, bad, nodeOf, Got, nothing, got, read, readAll, nodes, bound, maxNodes, maxBound}
 use Rattle.formula.specs.declared.Sort.{Sort}
+use Rattle.formula.specs.declared.Sort.the-variants.{Faces, Intervals}
 use Rattle.formula.specs.declared.Size.{Size}
 use Rattle.formula.specs.declared.Kind.{Kind}
 use Rattle.formula.specs.declared.Kind.the-variants.{Nullary, Literal, Unary, Binary, Unknown}
@@ -72,6 +74,14 @@ measuredAs s (some t) = Formula (sizeOf s t)
 -- The size of the one formula that the whole list is.
 unfoldable pub measured : Sort → List ℕ → Measured
 measured s l = measuredAs s (readAll s l)
+
+-- For the crates above: some formula of the sort, and the formula that the whole list is, or that one where it is none.
+abbrev pub anyTree : (s : Sort) → Tree s
+anyTree Faces = ff
+anyTree Intervals = i0
+
+unfoldable pub treeOf : (s : Sort) → List ℕ → Tree s
+treeOf s l = Option·getD (readAll s l) (anyTree s)
 
 abbrev pub frontSize : (s : Sort) → Got (Tree s) → Measured
 frontSize s nothing = Ill

@@ -72,13 +72,6 @@ pub fn is_literal(sort: Sort, b: u8) -> bool
     }
 }
 
-// The width of a dimension's field.
-pub fn dim_width() -> usize
-    ensures { λ r. ⌜ r ≡ dimWidth ⌝ }
-{
-    DIM
-}
-
 // The dimension whose field stands at `at`.
 pub fn dim_at(s: &[u8], at: usize) -> usize
     requires { ⌜ at + dimWidth ≤ length (now s) ⌝ }

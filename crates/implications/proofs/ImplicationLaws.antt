@@ -17,7 +17,8 @@ use Rattle.calculus.specs.Calls.{side, emitInterval, emitFace, emitCover, emitE
 use Rattle.calculus.specs.Door.{endOf}
 use Rattle.calculus.proofs.Growing.{IsEnd, is-i0, is-i1, Limited}
 use Rattle.calculus.proofs.Ends.{local-at}
-use Rattle.steps.specs.Trees.{Is, treeOf, Known}
+use Rattle.steps.specs.Trees.{Is, Known}
+use Rattle.formula.specs.Answers.{treeOf}
 use Rattle.steps.proofs.TreeLaws.{tree-of, is-short}
 use Rattle.steps.proofs.BoundaryLaws.{side-is}
 use Rattle.contexts.specs.Contexts.{Are, contextOf, Context}

@@ -13,7 +13,8 @@ ghost use Rattle.calculus.specs.Calls.{side, emitEntails, emitEndpoint};
 ghost use Rattle.calculus.specs.Door.{endOf};
 ghost use Rattle.ledger.specs.Ledger.{Led};
 ghost use Rattle.steps.specs.Running.{Runs, Emits};
-ghost use Rattle.steps.specs.Trees.{treeOf, Known};
+ghost use Rattle.formula.specs.Answers.{treeOf};
+ghost use Rattle.steps.specs.Trees.{Known};
 ghost use Rattle.steps.specs.Programs.{Sides};
 
 // The steps that a entails b over d: both faces, then the search with a alone.

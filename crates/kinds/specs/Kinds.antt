@@ -56,15 +56,17 @@ namesOf (x ∷ t) = nameIn x ++ namesOf t
 unfoldable pub nameStart : ℕ → ℕ
 nameStart k = length (namesOf (take (k - 1) table))
 
--- For a private contract: a row of the code's table.
+-- The reference count in an entry.
 abbrev pub countIn : Entry → ℕ
 countIn (entry name n p) = n
 countIn unlisted = 0
 
+-- The number of the predicate in an entry.
 abbrev pub numberIn : Entry → ℕ
 numberIn (entry name n p) = numberOf p
 numberIn unlisted = 0
 
+-- For a private contract: the row of a kind as one number, its groups of digits where the name begins, the count and the predicate.
 unfoldable pub rowOf : ℕ → ℕ
 rowOf k = nameStart k * 1000 + (countIn (entryOf k) * 100 + numberIn (entryOf k))
 

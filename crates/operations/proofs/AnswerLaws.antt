@@ -13,9 +13,9 @@ use borrow.Author.Tests.{leb-true, le-leb, lt-leb}
 use Rattle.formula.specs.Formula.{End, lo, hi, Face, ff, Interval, i0}
 use Rattle.formula.specs.Operations.{boundary, forall, Op, shift, subst as substitute, transform}
 use Rattle.formula.specs.Bytes.{Tree, encode, encodeFace, encodeInterval, readAll, nodesFace, nodesInterval, boundFace, boundInterval}
-use Rattle.formula.specs.Answers.{pick, sizeOf, measuredAs, measured, keeps}
+use Rattle.formula.specs.Answers.{pick, sizeOf, measuredAs, measured, keeps, treeOf}
 use Rattle.operations.specs.Results.{Kept, ill, over, kept, limited, asOperand, operand, ofOne, ofTwo, foralled, boundaried, transformed, sizedWith, sized, Answered, AnsweredBoth}
-use Rattle.passes.specs.Passes.{Token, tokens, tokensInterval, treeOf, tokensOf, Whole, weighs, weightOf, zeroSize, plainSize, Small, spell, imageOf, Wrote, Rewritable, sides, endOf, Sided, plain, literal}
+use Rattle.passes.specs.Passes.{Token, tokens, tokensInterval, tokensOf, Whole, weighs, weightOf, zeroSize, plainSize, Small, spell, imageOf, Wrote, Rewritable, sides, endOf, Sided, plain, literal}
 use Rattle.operations.specs.Fitting.{resizedBy, hitSize, keptBytes, Fitting}
 use Rattle.formula.specs.declared.Sort.{Sort}
 use Rattle.formula.specs.declared.Sort.the-variants.{Faces, Intervals}

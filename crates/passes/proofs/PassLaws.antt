@@ -9,8 +9,8 @@ use lib.ListN.{length, set, length-append}
 use lib.Seq.{sets, length-sets}
 use borrow.Author.Tests.{eq-eqb, ne-eqb}
 use Rattle.formula.specs.Formula.{beside}
-use Rattle.formula.specs.Answers.{kindOf}
-use Rattle.passes.specs.Passes.{Token, plain, literal, treeOf, tokensOf, Whole, tokenAt, behindAt, movedTo, _⊕_, zeroSize, weighs, plainWeight, movedWeight, weightOf, Small, spell, AllTokens, FieldedAt, Wrote, movedBytes, imageOf, Rewritable, Room}
+use Rattle.formula.specs.Answers.{kindOf, treeOf}
+use Rattle.passes.specs.Passes.{Token, plain, literal, tokensOf, Whole, tokenAt, behindAt, movedTo, _⊕_, zeroSize, weighs, plainWeight, movedWeight, weightOf, Small, spell, AllTokens, FieldedAt, Wrote, movedBytes, imageOf, Rewritable, Room}
 use Rattle.formula.specs.declared.Sort.{Sort}
 use Rattle.formula.specs.declared.Size.{Size}
 use Rattle.formula.specs.declared.Kind.{Kind}

@@ -10,8 +10,8 @@ use lib.Seq.{getD-set-same, getD-set-other}
 use Rattle.formula.specs.Formula.{End, lo, hi, other, Interval, i0, i1, dim, neg, meet, join}
 use Rattle.formula.specs.Operations.{boundary}
 use Rattle.formula.specs.Bytes.{dimAt, encodeFace, nodeOf}
-use Rattle.formula.specs.Answers.{kindOf}
-use Rattle.passes.specs.Passes.{Token, plain, literal, tokensInterval, treeOf, tokensOf, tokenBy, tokenAt, behindAt, Room, Wrote, bit, sideBytes, pushKind, pushed, sides, endOf, stackOf, Bits, pendingBy, Pushed, Sided}
+use Rattle.formula.specs.Answers.{kindOf, treeOf}
+use Rattle.passes.specs.Passes.{Token, plain, literal, tokensInterval, tokensOf, tokenBy, tokenAt, behindAt, Room, Wrote, bit, sideBytes, pushKind, pushed, sides, endOf, stackOf, Bits, pendingBy, Pushed, Sided}
 use Rattle.formula.specs.declared.Sort.the-variants.{Intervals}
 use Rattle.formula.specs.declared.Kind.{Kind}
 use Rattle.formula.specs.declared.Kind.the-variants.{Nullary, Literal, Unary, Binary, Unknown}

@@ -9,12 +9,17 @@ use lib.ListN.{length, getD, drop, length-drop}
 use lib.Seq.{drop-cons}
 use Rattle.formula.specs.Bytes.{Tree, dimWidth, dimBytes, dimAt, encode, Node, leaf, lit, one, two, bad, nodeOf}
 use Rattle.formula.specs.Answers.{kindOf, literalKind}
-use Rattle.passes.specs.Passes.{Token, plain, literal, tokens, tokensFace, tokensInterval, tokenBy, tokenAt, spanBy, behindAt, spell, rawBytes, AllTokens}
+use Rattle.passes.specs.Passes.{Token, plain, literal, tokens, tokensFace, tokensInterval, tokenBy, tokenAt, spanBy, behindAt, spell, AllTokens}
 use Rattle.formula.specs.declared.Sort.{Sort}
 use Rattle.formula.specs.declared.Sort.the-variants.{Faces, Intervals}
 use Rattle.formula.specs.declared.Kind.{Kind}
 use Rattle.formula.specs.declared.Kind.the-variants.{Nullary, Literal, Unary, Binary, Unknown}
 use Rattle.formula.proofs.Nodes.{made-as, EachNode, each-node, tree-ind}
+
+-- The bytes of a token.
+abbrev pub rawBytes : Token → List ℕ
+rawBytes (plain b) = b ∷ []
+rawBytes (literal b n) = b ∷ dimBytes n
 
 -- the token of a kind
 token-by : (k : Kind) (b n : ℕ) → literalKind k ≡ false → tokenBy k b n ≡ plain b

@@ -1,14 +1,13 @@
 -- Passes over a formula that is known to be one: its nodes as tokens, and what each becomes.
 use Prim.Native.Nat.{ℕ, zero, suc, pred, _+_, _-_, _≤_, _<_, max, compare}
 use mathlib.Core.Path.{_≡_}
-use mathlib.Core.Option.{Option·getD}
 use mathlib.Core.List.{List, [], _∷_, _++_}
 use lib.Dec.{eqb}
 use lib.ListN.{length, getD}
 use lib.Seq.{sets}
 use Rattle.formula.specs.Formula.{End, lo, hi, other, Face, ff, ft, at, fand, for, Interval, i0, i1, dim, neg, meet, join, beside, raised}
-use Rattle.formula.specs.Bytes.{Tree, dimWidth, dimBytes, dimAt, encode, readAll}
-use Rattle.formula.specs.Answers.{pick, dimSpace, kindOf}
+use Rattle.formula.specs.Bytes.{Tree, dimWidth, dimBytes, dimAt, encode}
+use Rattle.formula.specs.Answers.{pick, dimSpace, kindOf, treeOf}
 use Rattle.formula.specs.declared.Sort.{Sort}
 use Rattle.formula.specs.declared.Sort.the-variants.{Faces, Intervals}
 use Rattle.formula.specs.declared.Size.{Size}
@@ -18,14 +17,6 @@ use Rattle.passes.specs.declared.Rule.{Rule}
 use Rattle.passes.specs.declared.Rule.the-variants.{Up, Down, Ends}
 use Rattle.passes.specs.declared.Moved.{Moved}
 use Rattle.passes.specs.declared.Moved.the-variants.{To, Hit}
-
--- the formula that a list is; some formula where it is none
-abbrev pub anyTree : (s : Sort) → Tree s
-anyTree Faces = ff
-anyTree Intervals = i0
-
-unfoldable pub treeOf : (s : Sort) → List ℕ → Tree s
-treeOf s l = Option·getD (readAll s l) (anyTree s)
 
 -- a list that is a formula within the limits: its bytes are at most twice its nodes
 pub record Whole (s : Sort) (l : List ℕ) : Type 0 where
@@ -130,10 +121,6 @@ pub record Small (z : Size) : Type 0 where
 unfoldable pub spell : (Token → List ℕ) → List Token → List ℕ
 spell f [] = []
 spell f (t ∷ ts) = f t ++ spell f ts
-
-abbrev pub rawBytes : Token → List ℕ
-rawBytes (plain b) = b ∷ []
-rawBytes (literal b n) = b ∷ dimBytes n
 
 abbrev pub movedBytes : ℕ → Moved → List ℕ → List ℕ → List ℕ
 movedBytes b (To m) zero-side one-side = b ∷ dimBytes m

@@ -22,14 +22,13 @@ fn number_end(s: &[u8], at: usize, most: usize) -> End
     requires { ⌜ at ≤ length (now s) ⌝ }
     ensures { λ r. ⌜ r ≡ numberEnd (now (s .entry)) at most ⌝ }
 {
-    let w = formula::dim_width();
-    if s.len() - at < w {
+    if s.len() - at < formula::DIM {
         return End::Ill;
     }
     if most < formula::dim_at(s, at) {
         return End::Ill;
     }
-    End::To(at + w)
+    End::To(at + formula::DIM)
 }
 
 // Behind the formula at `at`.

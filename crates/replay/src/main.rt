@@ -112,7 +112,8 @@ fn calls(l: &mut [u8], list: usize, count: usize, t: &mut [usize; 23]) {
 
 // A list on a ledger of zeros as long as the slice.
 fn list(l: &mut [u8], n: usize, t: &mut [usize; 23]) {
-    stdio::clear(l);
+    let all = l.len();
+    records::clear(l, 0, all);
     tally::count(t, tally::LISTS);
     let count = stdio::read_number();
     let used = stdio::read_number();

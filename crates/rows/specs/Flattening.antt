@@ -83,10 +83,14 @@ patternNumber p = numberOf (predicate (inst blank p))
 abbrev pub padded : List Token → List Token
 padded ts = ts ++ replicate (9 - length ts) pad
 
+-- The items of a judgement's line.
+abbrev pub lineItems : JudP → List Item
+lineItems p = claim (patternNumber p) ∷ map inside (padded (flatJ p))
+
 -- The items of judgements, one after another.
 unfoldable pub itemsOf : List JudP → List Item
 itemsOf [] = []
-itemsOf (p ∷ ps) = claim (patternNumber p) ∷ (map inside (padded (flatJ p)) ++ itemsOf ps)
+itemsOf (p ∷ ps) = lineItems p ++ itemsOf ps
 
 -- A row's items, the conclusion first.
 abbrev pub itemsIn : Row → List Item
@@ -114,7 +118,7 @@ byteOf (inside pad) = 81
 
 -- The bytes of a judgement's line.
 abbrev pub lineOf : JudP → List ℕ
-lineOf p = map byteOf (claim (patternNumber p) ∷ map inside (padded (flatJ p)))
+lineOf p = map byteOf (lineItems p)
 
 -- The lines of all rows, one after another.
 unfoldable pub rowLines : List Row → List (List ℕ)

@@ -41,8 +41,7 @@ fn number_token(
     requires { ⌜ (v < 8) × (at ≤ end) × (end ≤ length (now l)) ⌝ }
     ensures { λ r. ⌜ Moves (number less v) at end left (now (l .entry)) (now (env .entry)) r (now (env .exit)) ⌝ }
 {
-    let w = formula::dim_width();
-    if end - at < w {
+    if end - at < formula::DIM {
         return Next::Stop;
     }
     let n = formula::dim_at(l, at);
@@ -50,7 +49,7 @@ fn number_token(
         return Next::Stop;
     }
     if slots::bind_number(env, v, n - less) {
-        return Next::Move(at + w, left);
+        return Next::Move(at + formula::DIM, left);
     }
     Next::Stop
 }

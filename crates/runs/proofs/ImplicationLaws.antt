@@ -18,7 +18,8 @@ use Rattle.calculus.specs.Door.{item, Task, endOf, every}
 use Rattle.ledger.specs.Ledger.{stepsOf, Led}
 use Rattle.steps.specs.declared.Ran.{Ran}
 use Rattle.steps.specs.Running.{Runs}
-use Rattle.steps.specs.Trees.{treeOf, Known}
+use Rattle.formula.specs.Answers.{treeOf}
+use Rattle.steps.specs.Trees.{Known}
 use Rattle.steps.proofs.TreeLaws.{read-known}
 use Rattle.replies.specs.declared.Refusal.{Refusal}
 use Rattle.replies.specs.declared.Answer.{Answer}

@@ -25,7 +25,8 @@ use Rattle.calculus.specs.Door
 use Rattle.calculus.specs.Door.{Item, item, Task, transformTask, taskOf, outputsOf, every}
 use Rattle.calculus.proofs.Doors.{ItemsKeep}
 use Rattle.ledger.specs.Ledger.{Led}
-use Rattle.steps.specs.Trees.{treeOf, Known}
+use Rattle.formula.specs.Answers.{treeOf}
+use Rattle.steps.specs.Trees.{Known}
 use Rattle.steps.proofs.TreeLaws.{read-known}
 use Rattle.transforms.specs.Transforms.{opOf, KnownOp}
 use Rattle.transforms.proofs.ImageLaws.{operand-known}

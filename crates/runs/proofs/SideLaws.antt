@@ -16,7 +16,7 @@ use Rattle.formula.specs.Operations
 use Rattle.formula.specs.Bytes.{encode, readAll, nodes, bound, maxNodes, maxBound}
 use Rattle.operations.specs.declared.Outcome.{Outcome}
 use Rattle.operations.specs.declared.Outcome.the-variants.{Done}
-use Rattle.formula.specs.Answers.{sizeOf}
+use Rattle.formula.specs.Answers.{sizeOf, treeOf}
 use Rattle.operations.specs.Results.{boundaried, AnsweredBoth}
 use Rattle.operations.proofs.ResultLaws.{boundary-sizes}
 use Rattle.calculus.specs.Parse.{readLedger}
@@ -28,7 +28,7 @@ use Rattle.calculus.proofs.Doors.{ItemsKeep}
 use Rattle.ledger.specs.Ledger.{stepsOf, Led}
 use Rattle.steps.specs.declared.Ran.{Ran}
 use Rattle.steps.specs.Running.{Runs}
-use Rattle.steps.specs.Trees.{treeOf, Known}
+use Rattle.steps.specs.Trees.{Known}
 use Rattle.steps.proofs.TreeLaws.{read-known}
 use Rattle.steps.specs.Programs.{Sides}
 use Rattle.steps.proofs.BoundaryLaws.{side-is}

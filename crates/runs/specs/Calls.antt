@@ -8,12 +8,12 @@ use Rattle.formula.specs.declared.Size.{Size}
 use Rattle.formula.specs.Formula.{lo}
 use Rattle.formula.specs.Operations.{boundary}
 use Rattle.formula.specs.Bytes.{Tree}
-use Rattle.formula.specs.Answers.{sizeOf}
+use Rattle.formula.specs.Answers.{sizeOf, treeOf}
 use Rattle.operations.specs.declared.Op.{Op as Asked}
 use Rattle.operations.specs.declared.Op.the-variants.{DShift, DSubst}
 use Rattle.calculus.specs.Door
 use Rattle.calculus.specs.Door.{Call}
-use Rattle.steps.specs.Trees.{Is, treeOf}
+use Rattle.steps.specs.Trees.{Is}
 use Rattle.steps.specs.Programs.{Sides}
 
 -- face and interval, by the sort.

@@ -10,7 +10,8 @@ ghost use lib.ListN.{length};
 ghost use Rattle.formula.specs.Operations.{forall as forallOf};
 ghost use Rattle.calculus.specs.Door.{forall as forallCall};
 ghost use Rattle.ledger.specs.Ledger.{Led};
-ghost use Rattle.steps.specs.Trees.{treeOf, Known};
+ghost use Rattle.formula.specs.Answers.{treeOf};
+ghost use Rattle.steps.specs.Trees.{Known};
 ghost use Rattle.replies.specs.Replying.{saidOne, Replies};
 ghost use Rattle.runs.specs.Calls.{Result};
 

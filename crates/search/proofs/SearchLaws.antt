@@ -6,7 +6,7 @@ use mathlib.Core.List.{List, [], _∷_, _++_}
 use lib.ListN.{length, getD, take, drop}
 use Rattle.formula.specs.declared.Sort.the-variants.{Faces}
 use Rattle.formula.specs.Formula.{Face, ff, fand, for}
-use Rattle.formula.specs.Answers.{partAt}
+use Rattle.formula.specs.Answers.{partAt, treeOf}
 use Rattle.calculus.specs.Judgement.{cover}
 use Rattle.calculus.specs.Rules
 use Rattle.calculus.specs.Search.{Move, splitOf, tryRight, move}
@@ -16,7 +16,7 @@ use Rattle.calculus.specs.Calls.{emitTake, emitMove, emitCover}
 use Rattle.steps.specs.declared.Ran.{Ran}
 use Rattle.steps.specs.declared.Ran.the-variants.{Done, NotBelow, NotImplied, Full}
 use Rattle.steps.specs.Running.{doneBy, stepBy, Runs, Emits}
-use Rattle.steps.specs.Trees.{Is, treeOf}
+use Rattle.steps.specs.Trees.{Is}
 use Rattle.steps.proofs.RunLaws.{runs-below, attempt-done, attempt-failed, attempt-full, Failed, emits-by}
 use Rattle.steps.proofs.TreeLaws.{tree-of}
 use Rattle.contexts.specs.Contexts.{Are, contextOf, leave, cut, At}

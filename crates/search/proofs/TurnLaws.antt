@@ -8,11 +8,11 @@ use lib.ListN.{length, getD, take, drop}
 use Rattle.formula.specs.declared.Sort.the-variants.{Faces}
 use Rattle.formula.specs.Formula.{lo, hi, Face, ff, ft, at, fand, for}
 use Rattle.formula.specs.Bytes.{encodeFace, boundFace}
-use Rattle.formula.specs.Answers.{partAt}
+use Rattle.formula.specs.Answers.{partAt, treeOf}
 use Rattle.calculus.specs.Search.{Move, by-top, by-hit, by-absurd, by-clash, stuck, _else_, provided, has, tryTop, tryClash, splitOf, tryLeft, tryRight, move}
 use Rattle.calculus.specs.Record.{facesBytes, boundContext}
 use Rattle.calculus.proofs.Searching.{Moves, is-clash, Refuted, move-view}
-use Rattle.steps.specs.Trees.{Is, treeOf}
+use Rattle.steps.specs.Trees.{Is}
 use Rattle.steps.proofs.TreeLaws.{tree-of}
 use Rattle.contexts.specs.declared.moves.Clash.{Clash}
 use Rattle.contexts.specs.declared.moves.Clash.the-variants.{Of, Free}

@@ -4,7 +4,8 @@ use formula::Sort;
 ghost use mathlib.Core.List.{[]};
 ghost use Rattle.formula.specs.declared.Sort.the-variants.{Faces};
 ghost use Rattle.calculus.specs.Search.{_else_, tryLeft, tryRight, move};
-ghost use Rattle.steps.specs.Trees.{treeOf, Known};
+ghost use Rattle.formula.specs.Answers.{treeOf};
+ghost use Rattle.steps.specs.Trees.{Known};
 ghost use Rattle.contexts.specs.Contexts.{contextOf, Context};
 ghost use Rattle.search.specs.Turns.{Turns};
 

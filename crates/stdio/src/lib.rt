@@ -88,12 +88,3 @@ pub fn room() -> [u8; 1048577]
 {
     [0; 1048577]
 }
-
-// Zeros.
-pub fn clear(l: &mut [u8]) {
-    let mut i = 0;
-    while i < l.len() {
-        l[i] = 0;
-        i += 1;
-    }
-}

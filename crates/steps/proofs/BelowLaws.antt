@@ -21,7 +21,8 @@ use Rattle.calculus.specs.Calls.{less, emitComparison, emitInterval, emitFace}
 use Rattle.calculus.proofs.Growing.{Limited}
 use Rattle.steps.specs.declared.Ran.{Ran}
 use Rattle.steps.specs.Running.{doneBy, stepBy, Runs, Emits}
-use Rattle.steps.specs.Trees.{Is, treeOf, Known, Literal}
+use Rattle.steps.specs.Trees.{Is, Known, Literal}
+use Rattle.formula.specs.Answers.{treeOf}
 use Rattle.steps.specs.Programs.{bounded, emitBounded, boundedKind}
 use Rattle.steps.proofs.RunLaws.{runs-next, runs-stop, runs-below, emits-by}
 use Rattle.steps.proofs.TreeLaws.{View, a-lit, view}

@@ -10,7 +10,7 @@ use Rattle.formula.specs.declared.Place.{Place}
 use Rattle.formula.specs.Formula.{End, lo, hi, other, Interval}
 use Rattle.formula.specs.Operations.{boundary}
 use Rattle.formula.specs.Bytes.{encode, encodeFace, nodesFace, boundFace}
-use Rattle.formula.specs.Answers.{partAt}
+use Rattle.formula.specs.Answers.{partAt, treeOf}
 use Rattle.formula.proofs.Nodes.{EachNode}
 use Rattle.formula.proofs.Meaning.{boundary-neg}
 use Rattle.operations.proofs.ResultLaws.{boundary-smaller}
@@ -22,7 +22,7 @@ use Rattle.calculus.specs.Calls.{bounds, emitBoundary}
 use Rattle.calculus.proofs.Growing.{Limited}
 use Rattle.steps.specs.declared.Ran.{Ran}
 use Rattle.steps.specs.Running.{Runs, Emits}
-use Rattle.steps.specs.Trees.{Is, treeOf, Known}
+use Rattle.steps.specs.Trees.{Is, Known}
 use Rattle.steps.specs.Programs.{Sides, boundaryKind}
 use Rattle.steps.proofs.RunLaws.{emits-by}
 use Rattle.steps.proofs.TreeLaws.{View, a-lit, a-one, tree-of}

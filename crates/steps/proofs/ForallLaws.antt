@@ -12,7 +12,7 @@ use Rattle.formula.specs.declared.Place.{Place}
 use Rattle.formula.specs.Formula.{End, Face, at}
 use Rattle.formula.specs.Operations.{forall}
 use Rattle.formula.specs.Bytes.{dimBytes, encode, encodeFace, nodesFace, boundFace}
-use Rattle.formula.specs.Answers.{partAt}
+use Rattle.formula.specs.Answers.{partAt, treeOf}
 use Rattle.formula.proofs.Compare.{compare-lt, compare-eq, compare-gt}
 use Rattle.formula.proofs.Meaning.{forall-hit, forall-below, forall-above}
 use Rattle.formula.proofs.Nodes.{EachNode}
@@ -27,7 +27,7 @@ use Rattle.calculus.proofs.Growing.{Limited}
 use Rattle.calculus.proofs.Calling.{forall-size}
 use Rattle.steps.specs.declared.Ran.{Ran}
 use Rattle.steps.specs.Running.{doneBy, stepBy, Runs, Emits}
-use Rattle.steps.specs.Trees.{Is, treeOf, Known}
+use Rattle.steps.specs.Trees.{Is, Known}
 use Rattle.steps.specs.Programs.{forallKind}
 use Rattle.steps.proofs.RunLaws.{emits-by, emits-kind, runs-emit, runs-stop}
 use Rattle.steps.proofs.TreeLaws.{View}

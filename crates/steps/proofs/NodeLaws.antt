@@ -13,7 +13,7 @@ use Rattle.formula.specs.declared.Place.{Place}
 use Rattle.formula.specs.declared.Sort.the-variants.{Faces}
 use Rattle.formula.specs.Formula.{End, lo, hi, Face, at}
 use Rattle.formula.specs.Bytes.{Tree, Node, leaf, lit, one, two, bad, nodeOf}
-use Rattle.formula.specs.Answers.{partAt}
+use Rattle.formula.specs.Answers.{partAt, treeOf}
 use Rattle.formula.proofs.Nodes.{EachNode, each-node}
 use Rattle.calculus.specs.Judgement.{Judgement}
 use Rattle.calculus.specs.Rules.{Rule}
@@ -24,7 +24,7 @@ use Rattle.calculus.proofs.Growing.{Limited}
 use Rattle.ledger.specs.Ledger.{stepsOf}
 use Rattle.steps.specs.declared.Ran.{Ran}
 use Rattle.steps.specs.Running.{doneBy, stepBy, Runs, Emits}
-use Rattle.steps.specs.Trees.{treeOf, Known}
+use Rattle.steps.specs.Trees.{Known}
 use Rattle.steps.proofs.RunLaws.{runs-next, runs-stop, runs-below, runs-more, emits-by}
 use Rattle.steps.proofs.TreeLaws.{View, a-leaf, a-lit, a-one, a-two, tree-of, known}
 

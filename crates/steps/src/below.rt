@@ -14,7 +14,8 @@ ghost use Rattle.formula.specs.Bytes.{dimBytes};
 ghost use Rattle.calculus.specs.Calls.{emitInterval};
 ghost use Rattle.ledger.specs.Ledger.{Led};
 ghost use Rattle.steps.specs.Running.{Runs, Emits};
-ghost use Rattle.steps.specs.Trees.{treeOf, Known, Literal};
+ghost use Rattle.formula.specs.Answers.{treeOf};
+ghost use Rattle.steps.specs.Trees.{Known, Literal};
 ghost use Rattle.steps.specs.Programs.{boundedKind, emitBounded};
 
 // The kind of the rule for a formula that begins with this byte.

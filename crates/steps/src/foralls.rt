@@ -14,7 +14,8 @@ ghost use Rattle.formula.specs.Bytes.{dimBytes, encode};
 ghost use Rattle.calculus.specs.Calls.{emitForall};
 ghost use Rattle.ledger.specs.Ledger.{Led};
 ghost use Rattle.steps.specs.Running.{Runs, Emits};
-ghost use Rattle.steps.specs.Trees.{treeOf, Known, Literal};
+ghost use Rattle.formula.specs.Answers.{treeOf};
+ghost use Rattle.steps.specs.Trees.{Known, Literal};
 ghost use Rattle.steps.specs.Programs.{forallKind};
 
 // The kind of the rule `more` after the first for a face that begins with this byte.

@@ -17,10 +17,10 @@ use Rattle.operations.specs.declared.Outcome.the-variants.{Ill, Over, Short, Do
 use Rattle.formula.specs.Formula.{End, lo, hi}
 use Rattle.formula.specs.Operations.{boundary, shift, subst, transform}
 use Rattle.formula.specs.Bytes.{Tree, encode, nodes, bound, maxNodes, maxBound}
-use Rattle.formula.specs.Answers.{sizeOf}
+use Rattle.formula.specs.Answers.{sizeOf, treeOf}
 use Rattle.operations.specs.Results.{Kept, kept, limited, asOperand, operand, ofOne, ofTwo, boundaried, transformed, outcome, written, Answered, AnsweredBoth}
 use Rattle.operations.proofs.ResultLaws.{boundary-sizes}
-use Rattle.steps.specs.Trees.{Is, treeOf, Known}
+use Rattle.steps.specs.Trees.{Is, Known}
 use Rattle.steps.specs.Programs.{Sides}
 use Rattle.transforms.specs.Transforms.{opOf, KnownOp}
 use Rattle.steps.proofs.TreeLaws.{read-known, is-short}

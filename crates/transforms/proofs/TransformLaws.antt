@@ -12,7 +12,7 @@ use Rattle.operations.specs.declared.Op.{Op as Asked}
 use Rattle.operations.specs.declared.Op.the-variants.{DShift, DSubst}
 use Rattle.formula.specs.Operations.{Op, shift, subst, dimTo, itransform, ftransform, transform}
 use Rattle.formula.specs.Bytes.{dimBytes, nodeOf, encodeFace, encodeInterval, nodesFace, nodesInterval, boundFace, boundInterval}
-use Rattle.formula.specs.Answers.{partAt}
+use Rattle.formula.specs.Answers.{partAt, treeOf}
 use Rattle.formula.specs.declared.Step.the-variants.{Lit, One, Two}
 use Rattle.formula.specs.declared.Place.{Place}
 use Rattle.formula.specs.Formula.{End, lo, hi, Face, at, Interval, dim, beside}
@@ -31,7 +31,7 @@ use Rattle.calculus.proofs.Calling.{SmallOp, dimTo-small, itransform-dim}
 use Rattle.ledger.specs.Ledger.{stepsOf}
 use Rattle.steps.specs.declared.Ran.{Ran}
 use Rattle.steps.specs.Running.{doneBy, stepBy, Runs, Emits}
-use Rattle.steps.specs.Trees.{Is, treeOf, Known, Literal}
+use Rattle.steps.specs.Trees.{Is, Known, Literal}
 use Rattle.transforms.specs.Transforms.{opOf, KnownOp, transformBytes, firstKind, kindGap, transformKind}
 use Rattle.steps.proofs.RunLaws.{emits-by, emits-kind, runs-emit, runs-next, runs-stop, runs-below, runs-more}
 use Rattle.steps.proofs.TreeLaws.{View, a-lit, tree-of}

@@ -8,8 +8,8 @@ use Rattle.operations.specs.declared.Op.{Op as Asked}
 use Rattle.operations.specs.declared.Op.the-variants.{DShift, DSubst}
 use Rattle.formula.specs.Operations.{Op, shift, subst}
 use Rattle.formula.specs.Bytes.{dimBytes}
-use Rattle.formula.specs.Answers.{pick}
-use Rattle.steps.specs.Trees.{treeOf, Known}
+use Rattle.formula.specs.Answers.{pick, treeOf}
+use Rattle.steps.specs.Trees.{Known}
 
 -- The operation that is asked for, with the bytes of the replacement.
 abbrev pub opOf : Asked → List ℕ → Op

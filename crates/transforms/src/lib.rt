@@ -14,7 +14,8 @@ ghost use Rattle.formula.specs.Bytes.{encode};
 ghost use Rattle.calculus.specs.Calls.{transform as transformOf, emitBoundary, emitIntervals, emitFaces, emitTransform};
 ghost use Rattle.ledger.specs.Ledger.{Led};
 ghost use Rattle.steps.specs.Running.{Runs, Emits};
-ghost use Rattle.steps.specs.Trees.{Is, treeOf, Known, Literal};
+ghost use Rattle.steps.specs.Trees.{Is, Known, Literal};
+ghost use Rattle.formula.specs.Answers.{treeOf};
 ghost use Rattle.transforms.specs.Transforms.{opOf, KnownOp, transformBytes, firstKind, kindGap, transformKind};
 
 // Where the kinds of the rules begin.

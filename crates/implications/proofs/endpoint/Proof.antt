@@ -2,7 +2,7 @@ use borrow.Author.Needs.{needs}
 use Rattle.implications.proofs.endpoint.Statement.{statement}
 use Rattle.implications.proofs.endpoint.Tie as tie
 use Rattle.formula.specs.declared.Sort.the-variants.{Intervals}
-use Rattle.steps.specs.Trees.{treeOf}
+use Rattle.formula.specs.Answers.{treeOf}
 use Rattle.implications.proofs.ImplicationLaws.{goal-at}
 
 endpoint-by-requires : tie.Need-endpoint-by-requires

@@ -1,4 +1,4 @@
-use Prim.Native.Nat.{ℕ, _<_}
+use Prim.Native.Nat.{ℕ, _<_, _+_}
 use borrow.Fn.Kinds.{In}
 use borrow.Fn.PlainCycle.{Measures, is, falls, and}
 use Rattle.transforms.proofs.transform.Reads as transform
@@ -18,10 +18,9 @@ use borrow.Author.Needs.{needs}
 use mathlib.Core.Path.{refl, sym, ap, _∙_, subst}
 use borrow.Author.Tests.{not-true, not-false}
 use lib.ListN.{length, getD, length-drop}
-use Prim.Native.Nat.{_+_}
-use Rattle.formula.specs.Answers.{partAt}
+use Rattle.formula.specs.Answers.{partAt, treeOf}
 use Rattle.calculus.specs.Calls.{transforms, emitTransform}
-use Rattle.steps.specs.Trees.{treeOf, Known}
+use Rattle.steps.specs.Trees.{Known}
 use Rattle.transforms.specs.Transforms.{opOf, transformKind}
 use Rattle.steps.proofs.RunLaws.{runs-led, emits-first}
 use Rattle.steps.proofs.TreeLaws.{viewed, is-long, is-short}

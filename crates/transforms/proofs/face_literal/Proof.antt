@@ -6,7 +6,7 @@ use mathlib.Core.Path.{sym, _∙_}
 use lib.Seq.{length-take-le}
 use borrow.Author.Tests.{not-true, not-false}
 use Rattle.formula.specs.declared.Sort.the-variants.{Faces}
-use Rattle.steps.specs.Trees.{treeOf}
+use Rattle.formula.specs.Answers.{treeOf}
 use Rattle.transforms.specs.Transforms.{opOf}
 use Rattle.steps.proofs.RunLaws.{runs-led}
 use Rattle.steps.proofs.TreeLaws.{known, is-long, is-short}

@@ -5,7 +5,7 @@ use mathlib.Core.Path.{sym, _∙_}
 use borrow.Author.Tests.{not-true, not-false}
 use Rattle.formula.specs.declared.Sort.the-variants.{Faces}
 use Rattle.formula.specs.Formula.{lo, hi}
-use Rattle.steps.specs.Trees.{treeOf}
+use Rattle.formula.specs.Answers.{treeOf}
 use Rattle.steps.proofs.RunLaws.{runs-led}
 use Rattle.steps.proofs.TreeLaws.{known}
 use Rattle.contexts.specs.Contexts.{contextOf}

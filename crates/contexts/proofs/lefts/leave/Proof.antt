@@ -3,11 +3,9 @@ use Rattle.contexts.proofs.lefts.leave.Statement.{statement}
 use Rattle.contexts.proofs.lefts.leave.Tie as tie
 use native.Mathlib.Omega.{arith}
 use mathlib.Core.Path.{sym, ap}
-use lib.ListN.{length}
-use lib.Seq.{length-take-le, length-sets}
-use Rattle.contexts.proofs.LeftLaws.{cut-length, leave-writes}
 use lib.ListN.{length, take}
-use Rattle.contexts.proofs.LeftLaws.{tail-length, cut-length, leave-writes}
+use lib.Seq.{length-take-le, length-sets}
+use Rattle.contexts.proofs.LeftLaws.{cut-length, leave-writes, tail-length}
 
 add-j : tie.Need-add-j
 add-j c = search needs

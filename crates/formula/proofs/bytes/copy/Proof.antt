@@ -1,16 +1,13 @@
 -- The stores so far are those of the source's first bytes.
 use Rattle.formula.proofs.bytes.copy.Statement.{statement}
 use Rattle.formula.proofs.bytes.copy.Tie as tie
-use Prim.Native.Nat.{_≤_, _-_}
+use Prim.Native.Nat.{_≤_, _-_, ℕ, _+_}
 use native.Mathlib.Omega.{arith}
 use mathlib.Core.Path.{_≡_, refl, ap, _∙_}
-use lib.ListN.{length}
+use lib.ListN.{length, take, set, getD}
 use mathlib.Core.List.{List}
-use lib.ListN.{length, take, set}
 use lib.Seq.{sets, length-sets, take-all}
 use Rattle.formula.proofs.ByteLaws.{copied-more}
-use Prim.Native.Nat.{ℕ, _+_, _≤_, _-_}
-use lib.ListN.{length, getD, take, set}
 
 abbrev Inv-loop : tie.InvT-loop
 Inv-loop src out₀ at i₀ out i = (i ≤ length src) × (out ≡ sets out₀ at (take i src))

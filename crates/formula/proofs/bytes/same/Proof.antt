@@ -1,7 +1,7 @@
 -- The lists agree as far as they were compared, so what is left decides.
 use Rattle.formula.proofs.bytes.same.Statement.{statement}
 use Rattle.formula.proofs.bytes.same.Tie as tie
-use Prim.Native.Nat.{_≤_, _-_}
+use Prim.Native.Nat.{_≤_, _-_, _+_}
 use native.Mathlib.Omega.{arith}
 use mathlib.Core.Path.{_≡_, refl, sym, ap, _∙_}
 use mathlib.Core.Bool.{Bool, _&&_}
@@ -9,7 +9,6 @@ use lib.ListN.{length, drop}
 use borrow.Author.Tests.{eq-eqb, ne-eqb}
 use Rattle.formula.specs.Answers.{sameBytes}
 use Rattle.formula.proofs.ByteLaws.{same-lengths, same-at, same-ends}
-use Prim.Native.Nat.{_≤_, _-_, _+_}
 
 abbrev Inv-loop : tie.InvT-loop
 Inv-loop a b i₀ i = (i ≤ length a) × (length a ≡ length b) × (sameBytes (drop i a) (drop i b) ≡ sameBytes a b)

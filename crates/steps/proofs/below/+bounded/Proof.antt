@@ -1,4 +1,4 @@
-use Prim.Native.Nat.{ℕ, _<_}
+use Prim.Native.Nat.{ℕ, _<_, _+_}
 use borrow.Fn.Kinds.{In}
 use borrow.Fn.PlainCycle.{Measures, is, falls, and}
 use Rattle.steps.proofs.below.bounded.Reads as bounded
@@ -17,15 +17,13 @@ use borrow.Author.Needs.{needs}
 use mathlib.Core.Path.{refl, sym, ap, _∙_, subst}
 use borrow.Author.Tests.{not-true, not-false}
 use lib.ListN.{length, length-drop}
-use Prim.Native.Nat.{_+_}
-use Rattle.formula.specs.Answers.{partAt}
-use Rattle.steps.specs.Trees.{treeOf, Known}
+use Rattle.formula.specs.Answers.{partAt, treeOf}
+use Rattle.steps.specs.Trees.{Known}
 use Rattle.steps.specs.Programs.{bounded as boundedBy, emitBounded, boundedKind}
 use Rattle.steps.proofs.RunLaws.{runs-led}
 use Rattle.steps.proofs.TreeLaws.{viewed, is-long, is-short}
-use Rattle.steps.proofs.NodeLaws.{part-runs, one-known, two-known, two-inside, not-stuck, leaf-runs, one-stop, one-runs, two-stop, two-stop-right, two-runs}
+use Rattle.steps.proofs.NodeLaws.{part-runs, one-known, two-known, two-inside, not-stuck, leaf-runs, one-stop, one-runs, two-stop, two-stop-right, two-runs, part-runs, rest-of, rest-behind, one-known, two-known, two-inside, not-stuck, leaf-runs, one-stop, one-runs, two-stop, two-stop-right, two-runs}
 use Rattle.steps.proofs.BelowLaws.{bounded-laws, bounded-limited, bounded-bytes}
-use Rattle.steps.proofs.NodeLaws.{part-runs, rest-of, rest-behind, one-known, two-known, two-inside, not-stuck, leaf-runs, one-stop, one-runs, two-stop, two-stop-right, two-runs}
 
 abbrev μ-bounded : Measures 2 bounded-kinds.ps ℕ
 μ-bounded κs a = length (a .1 .1 .1 .0 .now)

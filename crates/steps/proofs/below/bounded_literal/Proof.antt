@@ -3,7 +3,7 @@ use Rattle.steps.proofs.below.bounded_literal.Statement.{statement}
 use Rattle.steps.proofs.below.bounded_literal.Tie as tie
 use mathlib.Core.Path.{sym, _∙_}
 use borrow.Author.Tests.{not-true, not-false}
-use Rattle.steps.specs.Trees.{treeOf}
+use Rattle.formula.specs.Answers.{treeOf}
 use Rattle.steps.proofs.RunLaws.{runs-led}
 use Rattle.steps.proofs.TreeLaws.{is-long, is-short}
 use Rattle.steps.proofs.BelowLaws.{literal-low, literal-view, literal-stop, literal-of-face, literal-of-interval}

@@ -5,7 +5,7 @@ use native.Mathlib.Omega.{arith}
 use mathlib.Core.Path.{sym, _∙_}
 use borrow.Author.Tests.{not-true, not-false}
 use Rattle.formula.specs.declared.Sort.the-variants.{Faces}
-use Rattle.steps.specs.Trees.{treeOf}
+use Rattle.formula.specs.Answers.{treeOf}
 use Rattle.steps.proofs.RunLaws.{runs-led}
 use Rattle.steps.proofs.TreeLaws.{is-long, is-short}
 use Rattle.steps.proofs.NodeLaws.{literal-end}
