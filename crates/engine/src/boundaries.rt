@@ -11,7 +11,7 @@ pub fn boundary(l: &mut [u8], r: &[u8], out0: &mut [u8], out1: &mut [u8]) -> Mad
     ensures { λ x. ⌜ Replies (boundaryCall (now (r .entry)) (now (out0 .entry)) (now (out1 .entry))) (now (l .entry)) (saidBoth x) (now (l .exit)) (now (out0 .exit) ∷ now (out1 .exit) ∷ []) ⌝ }
 {
     match replies::one(l, Sort::Intervals, r, true) {
-        Gate::Open => runs::boundary(l, r, out0, out1),
+        Gate::Open => results::boundary(l, r, out0, out1),
         Gate::Shut(e) => Made::Refused(e),
     }
 }

@@ -11,7 +11,7 @@ pub fn forall(l: &mut [u8], f: &[u8], k: usize, out: &mut [u8]) -> Made
     ensures { λ r. ⌜ Replies (forallCall (now (f .entry)) k (now (out .entry))) (now (l .entry)) (saidOne r) (now (l .exit)) (now (out .exit) ∷ []) ⌝ }
 {
     match replies::one(l, Sort::Faces, f, k < 255) {
-        Gate::Open => runs::forall(l, f, k, out),
+        Gate::Open => results::forall(l, f, k, out),
         Gate::Shut(e) => Made::Refused(e),
     }
 }

@@ -12,7 +12,7 @@ pub fn shift(l: &mut [u8], sort: Sort, t: &[u8], k: usize, out: &mut [u8]) -> Ma
     ensures { λ x. ⌜ Replies (shiftCall sort (now (t .entry)) k (now (out .entry))) (now (l .entry)) (saidOne x) (now (l .exit)) (now (out .exit) ∷ []) ⌝ }
 {
     match replies::one(l, sort, t, k < 255) {
-        Gate::Open => runs::transform(l, sort, Op::DShift(k), t, t, out),
+        Gate::Open => results::transform(l, sort, Op::DShift(k), t, t, out),
         Gate::Shut(e) => Made::Refused(e),
     }
 }
@@ -22,7 +22,7 @@ pub fn substitute(l: &mut [u8], sort: Sort, t: &[u8], k: usize, r: &[u8], out: &
     ensures { λ x. ⌜ Replies (substituteCall sort (now (t .entry)) k (now (r .entry)) (now (out .entry))) (now (l .entry)) (saidOne x) (now (l .exit)) (now (out .exit) ∷ []) ⌝ }
 {
     match replies::two(l, sort, t, Sort::Intervals, r, k < 255) {
-        Gate::Open => runs::transform(l, sort, Op::DSubst(k), t, r, out),
+        Gate::Open => results::transform(l, sort, Op::DSubst(k), t, r, out),
         Gate::Shut(e) => Made::Refused(e),
     }
 }

@@ -35,11 +35,12 @@ use Rattle.desk.specs.Verdicts.{answerAs}
 use Rattle.desk.specs.declared.Verdict.{Verdict}
 use Rattle.desk.specs.declared.Verdict.the-variants.{Ill, Fails, Passes}
 use Rattle.desk.proofs.Verdicts.{passes-true, valid-passes}
-use Rattle.exports.specs.Answers.{refused, deskNumber, replyNumber, Numbers}
-use Rattle.exports.specs.Packing.{verdictNumber}
+use Rattle.numbers.specs.Answers.{refused, deskNumber, replyNumber, Numbers}
+use Rattle.numbers.specs.Packing.{verdictNumber}
 use Rattle.exports.specs.Exported
 use Rattle.exports.specs.Exported.{Exported, Calls, Accepted, NotRefusedTo7, Passed, RightNumber, Demand3}
-use Rattle.exports.proofs.NumberLaws.{number-range, step-low, desk-low, as-desk}
+use Rattle.numbers.proofs.NumberLaws.{number-range}
+use Rattle.exports.proofs.FitLaws.{step-low, desk-low, as-desk}
 
 -- The ledger after a list of calls ------------------------------------------------------------------
 

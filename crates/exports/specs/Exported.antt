@@ -18,7 +18,7 @@ use Rattle.calculus.specs.Door
 use Rattle.calculus.specs.Door.{Call, reply}
 use Rattle.calculus.specs.Demand.{empty, Lowest}
 use Rattle.calculus.specs.Desk.{Judged, deskAnswer}
-use Rattle.exports.specs.Answers.{refused, deskNumber, Numbers, isOne}
+use Rattle.numbers.specs.Answers.{refused, deskNumber, Numbers, isOne}
 
 -- A call of a C function on a ledger, with any arguments: its number and the ledger after it are as its contract says.
 pub data Exported (l : List ℕ) : Call → List ℕ → Type 0 where

@@ -1,8 +1,5 @@
-// What C and Rust programs call. Every answer is one number (specs/Answers): a refusal is negative.
-mod numbers;
-
+// What C and Rust programs call. Every answer is one number (numbers' specs/Answers): a refusal is negative.
 use formula::Sort;
-use ledger::Checked;
 ghost use mathlib.Core.Path.{_≡_};
 ghost use mathlib.Core.List.{[], _∷_};
 ghost use Rattle.calculus.specs.Parse.{readLedger};
@@ -10,17 +7,14 @@ ghost use Rattle.calculus.specs.Door.{reply, face as faceCall, interval as inte
 ghost use Rattle.calculus.specs.Desk.{deskAnswer};
 ghost use Rattle.calculus.proofs.Desk.{judge};
 ghost use Rattle.ledger.specs.Checks.{counted};
-ghost use Rattle.exports.specs.Answers.{stepsNumber, deskNumber, Numbers, isOne};
+ghost use Rattle.numbers.specs.Answers.{stepsNumber, deskNumber, Numbers, isOne};
 
 // How many steps the ledger has, or refusal 1.
 #[no_mangle]
 pub extern "C" fn lf_well_formed(ledger: &[u8]) -> u64
     ensures { λ r. ⌜ r ≡ stepsNumber (counted (readLedger (now (ledger .entry)))) ⌝ }
 {
-    match ledger::well_formed(ledger) {
-        Checked::Steps(n) => n as u64,
-        Checked::Ill => 18446744073709551615,
-    }
+    numbers::checked(ledger::well_formed(ledger))
 }
 
 // How many steps the desk passed, refusal 1, or -(10 + 16 * n) where step n is the lowest that does not follow.

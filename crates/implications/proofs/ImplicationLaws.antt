@@ -20,7 +20,7 @@ use Rattle.calculus.proofs.Ends.{local-at}
 use Rattle.steps.specs.Trees.{Is, Known}
 use Rattle.formula.specs.Answers.{treeOf}
 use Rattle.steps.proofs.TreeLaws.{tree-of, is-short}
-use Rattle.steps.proofs.BoundaryLaws.{side-is}
+use Rattle.boundary_steps.proofs.BoundaryLaws.{side-is}
 use Rattle.contexts.specs.Contexts.{Are, contextOf, Context}
 use Rattle.contexts.proofs.AfterLaws.{after-three}
 use Rattle.contexts.proofs.ContextLaws.{context-of, context-as}

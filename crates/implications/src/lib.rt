@@ -15,18 +15,18 @@ ghost use Rattle.ledger.specs.Ledger.{Led};
 ghost use Rattle.steps.specs.Running.{Runs, Emits};
 ghost use Rattle.formula.specs.Answers.{treeOf};
 ghost use Rattle.steps.specs.Trees.{Known};
-ghost use Rattle.steps.specs.Programs.{Sides};
+ghost use Rattle.boundary_steps.specs.Programs.{Sides};
 
 // The steps that a entails b over d: both faces, then the search with a alone.
 pub fn entails(l: &mut [u8], d: usize, a: &[u8], b: &[u8]) -> Ran
     requires { ⌜ Led (now l) × (d ≤ 255) × Known Faces (now a) × Known Faces (now b) ⌝ }
     ensures { λ r. ⌜ Runs (now (l .entry)) (emitEntails d (treeOf Faces (now (a .entry))) (treeOf Faces (now (b .entry)))) r (now (l .exit)) ⌝ }
 {
-    let r = steps::bounded(l, Sort::Faces, d, a);
+    let r = bounded_steps::bounded(l, Sort::Faces, d, a);
     if !steps::is_done(r) {
         return r;
     }
-    let s = steps::bounded(l, Sort::Faces, d, b);
+    let s = bounded_steps::bounded(l, Sort::Faces, d, b);
     if !steps::is_done(s) {
         return s;
     }
@@ -93,11 +93,11 @@ fn endpoint_by(
     requires { ⌜ Led (now l) × (d ≤ 255) × Known Faces (now phi) × Known Intervals (now r) × Sides (now r) (now zero) (now one) × (now goal ≡ encode Faces (boundary (endOf hi) (treeOf Intervals (now r)))) ⌝ }
     ensures { λ x. ⌜ Runs (now (l .entry)) (emitEndpoint d (treeOf Faces (now (phi .entry))) (treeOf Intervals (now (r .entry))) (endOf hi)) x (now (l .exit)) ⌝ }
 {
-    let x = steps::bounded(l, Sort::Intervals, d, r);
+    let x = bounded_steps::bounded(l, Sort::Intervals, d, r);
     if !steps::is_done(x) {
         return x;
     }
-    let y = steps::boundary(l, r, zero, one);
+    let y = boundary_steps::boundary(l, r, zero, one);
     if !steps::is_done(y) {
         return y;
     }

@@ -18,7 +18,7 @@ use Rattle.steps.specs.Running.{Runs}
 use Rattle.formula.specs.Answers.{treeOf}
 use Rattle.steps.specs.Trees.{Known}
 use Rattle.steps.proofs.TreeLaws.{read-known}
-use Rattle.steps.specs.Programs.{bounded, emitBounded}
+use Rattle.bounded_steps.specs.Programs.{bounded, emitBounded}
 use Rattle.replies.specs.declared.Refusal.{Refusal}
 use Rattle.replies.specs.declared.Answer.{Answer}
 use Rattle.replies.specs.declared.Answer.the-variants.{Refused}

@@ -1,5 +1,2 @@
 pub mod BoundLaws
-pub mod ResultLaws
-pub mod SideLaws
-pub mod IndexLaws
 pub mod ImplicationLaws

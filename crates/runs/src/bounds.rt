@@ -14,6 +14,6 @@ pub fn bounded(l: &mut [u8], sort: Sort, d: usize, f: &[u8]) -> Answer
     ensures { λ r. ⌜ Replies (boundedCall sort d (now (f .entry))) (now (l .entry)) (said r) (now (l .exit)) [] ⌝ }
 {
     let end = ledger::used(l);
-    let r = steps::bounded(l, sort, d, f);
+    let r = bounded_steps::bounded(l, sort, d, f);
     replies::ending(l, end, r)
 }

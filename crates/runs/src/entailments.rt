@@ -8,7 +8,7 @@ ghost use Prim.Native.Nat.{_≤_};
 ghost use Rattle.calculus.specs.Door.{endpoint as endpointCall, entails as entailsCall};
 ghost use Rattle.ledger.specs.Ledger.{Led};
 ghost use Rattle.steps.specs.Trees.{Known};
-ghost use Rattle.steps.specs.Programs.{Sides};
+ghost use Rattle.boundary_steps.specs.Programs.{Sides};
 ghost use Rattle.replies.specs.Replying.{said, Replies};
 
 // The call once questions 1 to 4 are answered.

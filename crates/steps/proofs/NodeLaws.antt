@@ -14,7 +14,7 @@ use Rattle.formula.specs.declared.Sort.the-variants.{Faces}
 use Rattle.formula.specs.Formula.{End, lo, hi, Face, at}
 use Rattle.formula.specs.Bytes.{Tree, Node, leaf, lit, one, two, bad, nodeOf}
 use Rattle.formula.specs.Answers.{partAt, treeOf}
-use Rattle.formula.proofs.Nodes.{EachNode, each-node}
+use Rattle.formula.proofs.Nodes.{EachNode, each-node, made-as}
 use Rattle.calculus.specs.Judgement.{Judgement}
 use Rattle.calculus.specs.Rules.{Rule}
 use Rattle.calculus.specs.Record.{operandBytes}
@@ -24,9 +24,9 @@ use Rattle.calculus.proofs.Growing.{Limited}
 use Rattle.ledger.specs.Ledger.{stepsOf}
 use Rattle.steps.specs.declared.Ran.{Ran}
 use Rattle.steps.specs.Running.{doneBy, stepBy, Runs, Emits}
-use Rattle.steps.specs.Trees.{Known}
+use Rattle.steps.specs.Trees.{Is, Known, Literal}
 use Rattle.steps.proofs.RunLaws.{runs-next, runs-stop, runs-below, runs-more, emits-by}
-use Rattle.steps.proofs.TreeLaws.{View, a-leaf, a-lit, a-one, a-two, tree-of, known}
+use Rattle.steps.proofs.TreeLaws.{View, a-leaf, a-lit, a-one, a-two, view, tree-of, known}
 
 -- No formula begins with a step that leads nowhere.
 stuck-view : {A : Type 0} {s : Sort} {f : List ℕ} {t : Tree s} → View s f t Stuck → A
@@ -182,3 +182,11 @@ behind f e = ap (λ (z : List ℕ). drop (1 + length z) f) e
 
 pub rest-behind : (f : List ℕ) {x y : List ℕ} → x ≡ y → take (length f - (1 + length x)) (drop (1 + length x) f) ≡ drop (1 + length y) f
 rest-behind f {x} e = rest-of f (1 + length x) ∙ behind f e
+
+-- A literal, as it is told of the bytes.
+pub literal-view : {s : Sort} {f : List ℕ} {n : ℕ} → Known s f → (h : Literal s n f) → View s f (treeOf s f) (Lit (h .place) n)
+literal-view {s} {f} {n} k h = subst (View s f (treeOf s f)) (h .steps) (view s (treeOf s f) f k)
+
+-- The dimension of a literal keeps the limits.
+pub literal-low : {s : Sort} {f : List ℕ} {q : Place} {n : ℕ} (t : Tree s) → View s f t (Lit q n) → Is s t f → n < 255
+literal-low {s} t (a-lit b n g e j) h = omega (arith, made-as s b (lit g) e n .top, h .low)

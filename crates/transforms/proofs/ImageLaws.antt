@@ -21,10 +21,10 @@ use Rattle.formula.specs.Answers.{sizeOf, treeOf}
 use Rattle.operations.specs.Results.{Kept, kept, limited, asOperand, operand, ofOne, ofTwo, boundaried, transformed, outcome, written, Answered, AnsweredBoth}
 use Rattle.operations.proofs.ResultLaws.{boundary-sizes}
 use Rattle.steps.specs.Trees.{Is, Known}
-use Rattle.steps.specs.Programs.{Sides}
+use Rattle.boundary_steps.specs.Programs.{Sides}
 use Rattle.transforms.specs.Transforms.{opOf, KnownOp}
 use Rattle.steps.proofs.TreeLaws.{read-known, is-short}
-use Rattle.steps.proofs.BoundaryLaws.{side-is}
+use Rattle.boundary_steps.proofs.BoundaryLaws.{side-is}
 
 -- What keeps the limits is kept.
 pub limited-is : {s : Sort} {t : Tree s} {l : List ℕ} → Is s t l → limited s t ≡ kept t

@@ -35,8 +35,7 @@ use Rattle.steps.specs.Trees.{Is, Known, Literal}
 use Rattle.transforms.specs.Transforms.{opOf, KnownOp, transformBytes, firstKind, kindGap, transformKind}
 use Rattle.steps.proofs.RunLaws.{emits-by, emits-kind, runs-emit, runs-next, runs-stop, runs-below, runs-more}
 use Rattle.steps.proofs.TreeLaws.{View, a-lit, tree-of}
-use Rattle.steps.proofs.NodeLaws.{Law, AtLit, at-lit, AtOne, AtTwo, AtEnd, at-end, literal-end, end-kind, behind}
-use Rattle.steps.proofs.BelowLaws.{literal-view, literal-low}
+use Rattle.steps.proofs.NodeLaws.{Law, AtLit, at-lit, AtOne, AtTwo, AtEnd, at-end, literal-end, end-kind, behind, literal-view, literal-low}
 use Rattle.steps.proofs.ResultLaws.{CutIs, Pairs, Singles, result-cut-is, result-rest}
 
 -- The program and the rule at each kind byte.

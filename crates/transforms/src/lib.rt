@@ -196,7 +196,7 @@ fn boundary_steps(l: &mut [u8], r: &[u8]) -> Ran
             let m = z.len;
             let a = &zero[..m];
             let b = &one[..m];
-            steps::boundary(l, r, a, b)
+            boundary_steps::boundary(l, r, a, b)
         }
         Outcome::Short(_) => Ran::Full,
         Outcome::Over => Ran::Full,

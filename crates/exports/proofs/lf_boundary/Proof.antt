@@ -3,7 +3,7 @@ use Rattle.exports.proofs.lf_boundary.Statement.{statement}
 use Rattle.exports.proofs.lf_boundary.Tie as tie
 use native.Mathlib.Omega.{arith}
 use Rattle.calculus.proofs.Fields.{below-each}
-use Rattle.exports.proofs.NumberLaws.{packs-both, numbers}
+use Rattle.exports.proofs.FitLaws.{packs-both, numbers}
 
 boundary-requires : tie.Need-boundary-requires
 boundary-requires c κs = search needs

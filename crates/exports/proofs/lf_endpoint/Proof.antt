@@ -4,8 +4,8 @@ use Rattle.exports.proofs.lf_endpoint.Tie as tie
 use mathlib.Core.Path.{subst}
 use mathlib.Core.Bool.{Bool}
 use Rattle.calculus.specs.Door.{reply, endpoint}
-use Rattle.exports.specs.Answers.{Numbers}
-use Rattle.exports.proofs.NumberLaws.{numbers}
+use Rattle.numbers.specs.Answers.{Numbers}
+use Rattle.exports.proofs.FitLaws.{numbers}
 
 is-one-requires : tie.Need-is-one-requires
 is-one-requires c κs = search needs

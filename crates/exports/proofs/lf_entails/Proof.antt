@@ -1,7 +1,7 @@
 use borrow.Author.Needs.{needs}
 use Rattle.exports.proofs.lf_entails.Statement.{statement}
 use Rattle.exports.proofs.lf_entails.Tie as tie
-use Rattle.exports.proofs.NumberLaws.{numbers}
+use Rattle.exports.proofs.FitLaws.{numbers}
 
 entails-requires : tie.Need-entails-requires
 entails-requires c κs = search needs

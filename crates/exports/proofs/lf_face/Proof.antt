@@ -1,7 +1,7 @@
 use borrow.Author.Needs.{needs}
 use Rattle.exports.proofs.lf_face.Statement.{statement}
 use Rattle.exports.proofs.lf_face.Tie as tie
-use Rattle.exports.proofs.NumberLaws.{numbers}
+use Rattle.exports.proofs.FitLaws.{numbers}
 
 face-requires : tie.Need-face-requires
 face-requires c κs = search needs

@@ -3,7 +3,7 @@ use Rattle.exports.proofs.lf_forall.Statement.{statement}
 use Rattle.exports.proofs.lf_forall.Tie as tie
 use native.Mathlib.Omega.{arith}
 use Rattle.calculus.proofs.Fields.{below-each}
-use Rattle.exports.proofs.NumberLaws.{packs-one, numbers}
+use Rattle.exports.proofs.FitLaws.{packs-one, numbers}
 
 forall-requires : tie.Need-forall-requires
 forall-requires c κs = search needs

@@ -1,7 +1,7 @@
 use borrow.Author.Needs.{needs}
 use Rattle.exports.proofs.lf_interval.Statement.{statement}
 use Rattle.exports.proofs.lf_interval.Tie as tie
-use Rattle.exports.proofs.NumberLaws.{numbers}
+use Rattle.exports.proofs.FitLaws.{numbers}
 
 interval-requires : tie.Need-interval-requires
 interval-requires c κs = search needs

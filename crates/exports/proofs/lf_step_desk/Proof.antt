@@ -3,7 +3,7 @@ use Rattle.exports.proofs.lf_step_desk.Statement.{statement}
 use Rattle.exports.proofs.lf_step_desk.Tie as tie
 use native.Mathlib.Omega.{arith}
 use Rattle.calculus.proofs.Fields.{below-each}
-use Rattle.exports.proofs.NumberLaws.{desk-low, desk-number}
+use Rattle.exports.proofs.FitLaws.{desk-low, desk-number}
 
 step-desk-requires : tie.Need-step-desk-requires
 step-desk-requires c κs = search needs

@@ -3,7 +3,7 @@ use Rattle.exports.proofs.lf_substitute_interval.Statement.{statement}
 use Rattle.exports.proofs.lf_substitute_interval.Tie as tie
 use native.Mathlib.Omega.{arith}
 use Rattle.calculus.proofs.Fields.{below-each}
-use Rattle.exports.proofs.NumberLaws.{packs-one, numbers}
+use Rattle.exports.proofs.FitLaws.{packs-one, numbers}
 
 substitute-requires : tie.Need-substitute-requires
 substitute-requires c κs = search needs

@@ -6,7 +6,7 @@ use borrow.Author.Tests.{not-true, not-false}
 use Rattle.calculus.specs.Door.{endOf}
 use Rattle.steps.proofs.RunLaws.{runs-led}
 use Rattle.steps.proofs.TreeLaws.{known, is-short}
-use Rattle.steps.proofs.BoundaryLaws.{side-is}
+use Rattle.boundary_steps.proofs.BoundaryLaws.{side-is}
 use Rattle.contexts.proofs.AfterLaws.{three-stop, three-stop-2, three-stop-3, three-up}
 use Rattle.implications.proofs.ImplicationLaws.{local-rule, endpoint-program, local-limited, local-bytes}
 

@@ -6,7 +6,7 @@ use native.Mathlib.Omega.{arith}
 use Rattle.formula.specs.declared.Sort.the-variants.{Intervals}
 use Rattle.calculus.proofs.Fields.{below-each}
 use Rattle.replies.proofs.GateLaws.{one-open}
-use Rattle.runs.proofs.SideLaws.{sides-refused}
+use Rattle.results.proofs.SideLaws.{sides-refused}
 
 one-requires : tie.Need-one-requires
 one-requires c κs = search needs

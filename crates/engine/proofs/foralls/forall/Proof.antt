@@ -7,7 +7,7 @@ use borrow.Author.Tests.{ltb-true}
 use Rattle.formula.specs.declared.Sort.the-variants.{Faces}
 use Rattle.calculus.proofs.Fields.{below-each}
 use Rattle.replies.proofs.GateLaws.{one-open}
-use Rattle.runs.proofs.IndexLaws.{forall-refused}
+use Rattle.results.proofs.IndexLaws.{forall-refused}
 
 one-requires : tie.Need-one-requires
 one-requires c κs = search needs

@@ -6,7 +6,7 @@ use native.Mathlib.Omega.{arith}
 use borrow.Author.Tests.{ltb-true}
 use Rattle.calculus.proofs.Fields.{below-each}
 use Rattle.replies.proofs.GateLaws.{one-open}
-use Rattle.runs.proofs.IndexLaws.{shift-refused}
+use Rattle.results.proofs.IndexLaws.{shift-refused}
 
 one-requires : tie.Need-one-requires
 one-requires c κs = search needs

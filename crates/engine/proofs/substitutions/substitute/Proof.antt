@@ -7,7 +7,7 @@ use borrow.Author.Tests.{ltb-true}
 use Rattle.formula.specs.declared.Sort.the-variants.{Intervals}
 use Rattle.calculus.proofs.Fields.{below-each}
 use Rattle.replies.proofs.GateLaws.{two-open}
-use Rattle.runs.proofs.IndexLaws.{substitute-refused}
+use Rattle.results.proofs.IndexLaws.{substitute-refused}
 
 two-requires : tie.Need-two-requires
 two-requires c κs = search needs

@@ -1,9 +1,0 @@
-use Rattle.exports.proofs.numbers.is_one.Statement.{statement}
-use Rattle.exports.proofs.numbers.is_one.Tie as tie
-use Rattle.exports.proofs.NumberLaws.{is-one}
-
-returns : tie.Need-returns
-returns c = is-one (c .args .one)
-
-pub is-one-spec : {M : Type 1} → statement M
-is-one-spec = tie.close (tie.spec returns)

@@ -1,0 +1,3 @@
+pub mod ResultLaws
+pub mod SideLaws
+pub mod IndexLaws
