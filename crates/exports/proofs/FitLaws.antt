@@ -2,13 +2,18 @@
 use mathlib.Core.Path.{_≡_, refl, sym, ap, _∙_, subst}
 use mathlib.Core.Option.{Option, none, some}
 use mathlib.Core.List.{List, [], _∷_, map}
+use mathlib.Core.Bool.{Bool, true, false, _&&_}
 use Prim.Native.Nat.{ℕ, _≤_, _<_}
 use native.Mathlib.Omega.{arith}
+use lib.Dec.{leb}
 use lib.ListN.{length}
+use lib.Seq.{sets}
 use Rattle.formula.specs.declared.Sort.{Sort}
 use Rattle.formula.specs.declared.Sort.the-variants.{Faces, Intervals}
 use Rattle.formula.specs.Bytes.{Tree, encode, nodes, maxNodes, readAll}
+use Rattle.formula.specs.Answers.{pick}
 use Rattle.operations.proofs.ResultLaws.{len-short}
+use Rattle.calculus.specs.Refusal.{short-output}
 use Rattle.calculus.specs.Judgement.{Step}
 use Rattle.calculus.specs.Rules.{AllBelow, pass, fail}
 use Rattle.calculus.specs.Record.{maxLedger, Holds}
@@ -27,8 +32,14 @@ use Rattle.desk.specs.declared.Verdict.{Verdict}
 use Rattle.desk.proofs.Verdicts.{fails-lowest}
 use Rattle.replies.specs.declared.Made.{Made}
 use Rattle.replies.specs.Replying.{saidOne, saidBoth, Replies}
-use Rattle.numbers.specs.Answers.{deskNumber, replyNumber, Numbers}
-use Rattle.numbers.specs.Packing.{Packs, Low, verdictNumber}
+use Rattle.text.specs.Reading
+use Rattle.text.specs.Reading.{readFormula, Claimed, readClaim}
+use Rattle.text.specs.Answers.{Delivered, delivered, saidLength, ReadsInto, Lengths, BothDelivered, bothDelivered, saidClaim, ReadsClaim}
+use Rattle.text.specs.declared.Length.{Length}
+use Rattle.text.specs.declared.Claim.{Claim}
+use Rattle.text.proofs.Accepting.{ClaimWithin, claim-read}
+use Rattle.numbers.specs.Answers.{deskNumber, replyNumber, lengthNumber, claimNumber, Reads, ReadsBoth, Numbers}
+use Rattle.numbers.specs.Packing.{Packs, ClaimFits, Low, verdictNumber}
 
 -- A ledger has fewer steps than bytes.
 pub step-low : {l : List ℕ} {L : List Step} → Holds l L → {n : ℕ} → n < length L → n < maxLedger
@@ -101,3 +112,41 @@ as-desk (judged (fail n)) = refl
 
 pub desk-number : (l : List ℕ) {v : Verdict} {r : ℕ} → v ≡ answerAs (deskAnswer judge l) → r ≡ verdictNumber v → r ≡ deskNumber (deskAnswer judge l)
 desk-number l h e = e ∙ ap verdictNumber h ∙ as-desk (deskAnswer judge l)
+
+-- Readers ------------------------------------------------------------------------------------------------
+
+pub reads-number : {s : Sort} {l out out′ : List ℕ} {a : Length} {r : ℕ} → ReadsInto s l out a out′ → r ≡ lengthNumber (saidLength a) → Reads (delivered (Reading.map (encode s) (readFormula s l)) out) r out′
+reads-number h e = record { numbered = e ∙ ap (λ (x : Delivered). lengthNumber (x .answer)) (sym (h .equal)); output = ap (λ (x : Delivered). x .output) (sym (h .equal)) }
+
+pub claim-number : {l a b a′ b′ : List ℕ} {c : Claim} {r : ℕ} → ReadsClaim l a b c a′ b′ → r ≡ claimNumber (saidClaim c) → ReadsBoth (bothDelivered (readClaim l) a b) r a′ b′
+claim-number h e = record { numbered = e ∙ ap (λ (x : BothDelivered). claimNumber (x .answer)) (sym (h .equal)); left = ap (λ (x : BothDelivered). x .left) (sym (h .equal)); right = ap (λ (x : BothDelivered). x .right) (sym (h .equal)) }
+
+-- A claim within the limits fits into one number.
+record Bounded (n : Lengths) : Type 0 where
+  dimensions : n .dimensions < 65536
+  left : n .left < 65536
+  right : n .right < 65536
+
+BoundedAnswer : Reading.Outcome Lengths → Type 0
+BoundedAnswer (Reading.done n) = Bounded n
+BoundedAnswer (Reading.refused e) = Unit {0}
+
+bounded-put : (t : Bool) (c : Claimed) (a b : List ℕ) → ClaimWithin c
+    → BoundedAnswer ((pick {A = BothDelivered} t (record { answer = Reading.done (record { dimensions = c .dimensions; left = length (encode Faces (c .left)); right = length (encode Faces (c .right)) }); left = sets a 0 (encode Faces (c .left)); right = sets b 0 (encode Faces (c .right)) }) (record { answer = Reading.refused short-output; left = a; right = b })) .answer)
+unfolding BoundedAnswer
+bounded-put true c a b h = record { dimensions = omega (arith, h .0); left = omega (arith, tree-short Faces (c .left) (h .1 .0)); right = omega (arith, tree-short Faces (c .right) (h .2 .0)) }
+bounded-put false c a b h = tt
+
+bounded-claim : (l a b : List ℕ) (o : Reading.Outcome Claimed) → readClaim l ≡ o → BoundedAnswer ((bothDelivered o a b) .answer)
+unfolding BoundedAnswer
+bounded-claim l a b (Reading.refused e) p = tt
+bounded-claim l a b (Reading.done c) p = bounded-put (leb (length (encode Faces (c .left))) (length a) && leb (length (encode Faces (c .right))) (length b)) c a b (claim-read l c p .1)
+
+pub claim-fits : {l a b a′ b′ : List ℕ} {r : Claim} → ReadsClaim l a b r a′ b′ → ClaimFits r
+unfolding BoundedAnswer
+claim-fits {l} {a} {b} h =
+    record {
+      fits = λ d x y e.
+          let k : BoundedAnswer (Reading.done (record { dimensions = d; left = x; right = y })) = subst BoundedAnswer (ap (λ (z : BothDelivered). z .answer) (h .equal) ∙ ap saidClaim e) (bounded-claim l a b (readClaim l) refl) in
+          (k .dimensions, k .left, k .right);
+    }

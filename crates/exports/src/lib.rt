@@ -7,7 +7,10 @@ ghost use Rattle.calculus.specs.Door.{reply, face as faceCall, interval as inte
 ghost use Rattle.calculus.specs.Desk.{deskAnswer};
 ghost use Rattle.calculus.proofs.Desk.{judge};
 ghost use Rattle.ledger.specs.Checks.{counted};
-ghost use Rattle.numbers.specs.Answers.{stepsNumber, deskNumber, Numbers, isOne};
+ghost use Rattle.formula.specs.Bytes.{encode};
+ghost use Rattle.text.specs.Reading.{map, readFormula, readClaim};
+ghost use Rattle.text.specs.Answers.{delivered, bothDelivered};
+ghost use Rattle.numbers.specs.Answers.{stepsNumber, deskNumber, Numbers, Reads, ReadsBoth, isOne};
 
 // How many steps the ledger has, or refusal 1.
 #[no_mangle]
@@ -116,4 +119,28 @@ pub extern "C" fn lf_entails(ledger: &mut [u8], d: u64, a: &[u8], b: &[u8]) -> u
     ensures { λ r. ⌜ Numbers (reply (entailsCall d (now (a .entry)) (now (b .entry))) (now (ledger .entry))) r (now (ledger .exit)) [] ⌝ }
 {
     numbers::answer(engine::entails(ledger, d as usize, a, b))
+}
+
+// The face that a text is, in front of the output.
+#[no_mangle]
+pub extern "C" fn lf_read_face(source: &[u8], out: &mut [u8]) -> u64
+    ensures { λ r. ⌜ Reads (delivered (map (encode Sort.Faces) (readFormula Sort.Faces (now (source .entry)))) (now (out .entry))) r (now (out .exit)) ⌝ }
+{
+    numbers::length(text::read_formula(Sort::Faces, source, out))
+}
+
+// The interval that a text is, in front of the output.
+#[no_mangle]
+pub extern "C" fn lf_read_interval(source: &[u8], out: &mut [u8]) -> u64
+    ensures { λ r. ⌜ Reads (delivered (map (encode Sort.Intervals) (readFormula Sort.Intervals (now (source .entry)))) (now (out .entry))) r (now (out .exit)) ⌝ }
+{
+    numbers::length(text::read_formula(Sort::Intervals, source, out))
+}
+
+// The claim that a text is: d, and its faces in front of the outputs.
+#[no_mangle]
+pub extern "C" fn lf_read_claim(source: &[u8], a: &mut [u8], b: &mut [u8]) -> u64
+    ensures { λ r. ⌜ ReadsBoth (bothDelivered (readClaim (now (source .entry))) (now (a .entry)) (now (b .entry))) r (now (a .exit)) (now (b .exit)) ⌝ }
+{
+    numbers::claim(text::read_claim(source, a, b))
 }

@@ -8,12 +8,13 @@ use Rattle.formula.specs.declared.Size.{Size}
 use Rattle.calculus.specs.Emit.{not-below, not-implied}
 use Rattle.calculus.specs.Refusal.{Refusal, ill-formed-ledger, not-a-formula, too-many-nodes, large-dimension, large-result, short-output, full-ledger, failing, does-not-follow, not-accepted, number}
 use Rattle.calculus.specs.Door.{refused}
-use Rattle.replies.specs.declared.Refusal.{Refusal as Refused}
+use Rattle.refusals.specs.declared.Refusal.{Refusal as Refused}
 use Rattle.replies.specs.declared.Answer.{Answer}
 use Rattle.replies.specs.declared.Answer.the-variants.{Refused as refusedBy}
 use Rattle.replies.specs.declared.Made.{Made}
 use Rattle.replies.specs.declared.Made.the-variants.{Step as MadeStep, Refused as refusedMade}
-use Rattle.replies.specs.Replying.{refusalOf, said, saidOne, saidBoth}
+use Rattle.refusals.specs.Refusals.{refusalOf}
+use Rattle.replies.specs.Replying.{said, saidOne, saidBoth}
 use Rattle.numbers.specs.Answers.{replyNumber, isOne}
 
 -- A refusal's number is from 1 to 11.

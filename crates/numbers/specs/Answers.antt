@@ -10,6 +10,9 @@ use Rattle.calculus.specs.Door.{answered, Reply}
 use Rattle.calculus.specs.Desk.{DeskAnswer, unreadable, judged}
 use Rattle.ledger.specs.declared.Checked.{Checked}
 use Rattle.ledger.specs.declared.Checked.the-variants.{Steps, Ill}
+use Rattle.text.specs.Reading
+use Rattle.text.specs.Reading.{Outcome, done}
+use Rattle.text.specs.Answers.{Delivered, Lengths, BothDelivered}
 
 -- Refusal n is the bits of -n.
 abbrev pub refused : ℕ → ℕ
@@ -31,6 +34,26 @@ abbrev pub replyNumber : Door.Answer → ℕ
 replyNumber (answered n []) = n
 replyNumber (answered n (m ∷ ms)) = n + 4294967296 * m .bytes
 replyNumber (Door.refused e) = refused (number e)
+
+-- The length of what was read, or the refusal.
+abbrev pub lengthNumber : Outcome ℕ → ℕ
+lengthNumber (done n) = n
+lengthNumber (Reading.refused e) = refused (number e)
+
+-- d, 2^16 times the bytes of the first face and 2^32 times those of the second, or the refusal.
+abbrev pub claimNumber : Outcome Lengths → ℕ
+claimNumber (done c) = c .dimensions + 65536 * c .left + 4294967296 * c .right
+claimNumber (Reading.refused e) = refused (number e)
+
+-- The number of a reader, and every byte of its outputs, are those of what it delivers.
+pub record Reads (x : Delivered) (r : ℕ) (out′ : List ℕ) : Type 0 where
+  pub numbered : r ≡ lengthNumber (x .answer)
+  pub output : out′ ≡ x .output
+
+pub record ReadsBoth (x : BothDelivered) (r : ℕ) (a′ b′ : List ℕ) : Type 0 where
+  pub numbered : r ≡ claimNumber (x .answer)
+  pub left : a′ ≡ x .left
+  pub right : b′ ≡ x .right
 
 -- The number of a call, and every lent byte after it, are those of the calculus' reply.
 pub record Numbers (x : Reply) (r : ℕ) (l′ : List ℕ) (outs : List (List ℕ)) : Type 0 where

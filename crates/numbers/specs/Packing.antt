@@ -6,11 +6,17 @@ use Rattle.replies.specs.declared.Made.{Made}
 use Rattle.replies.specs.declared.Made.the-variants.{Step}
 use Rattle.desk.specs.declared.Verdict.{Verdict}
 use Rattle.desk.specs.declared.Verdict.the-variants.{Ill, Fails, Passes}
+use Rattle.text.specs.declared.Claim.{Claim}
+use Rattle.text.specs.declared.Claim.the-variants.{Read}
 use Rattle.numbers.specs.Answers.{refused}
 
 -- The step takes 32 bits, and the length of the result 31.
 pub record Packs (a : Made) : Type 0 where
   pub fits : (n : ℕ) (z : Size) → a ≡ Step n z → (n < 4294967296) × (z .len < 2147483648)
+
+-- d and the lengths of the faces of a claim take 16 bits each.
+pub record ClaimFits (a : Claim) : Type 0 where
+  pub fits : (d x y : ℕ) → a ≡ Read d x y → (d < 65536) × (x < 65536) × (y < 65536)
 
 -- The step that does not follow takes 32 bits.
 pub record Low (v : Verdict) : Type 0 where

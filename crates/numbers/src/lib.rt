@@ -1,20 +1,24 @@
 // Answers as one number (specs/Answers): a refusal is negative.
 use desk::Verdict;
 use ledger::Checked;
+use refusals::Refusal;
 use replies::Answer;
 use replies::Made;
-use replies::Refusal;
+use text::Claim;
+use text::Length;
 ghost use mathlib.Core.Path.{_≡_};
 ghost use Rattle.calculus.specs.Door.{refused as refusedBy};
-ghost use Rattle.replies.specs.Replying.{refusalOf, said, saidOne, saidBoth};
-ghost use Rattle.numbers.specs.Answers.{stepsNumber, replyNumber, isOne};
-ghost use Rattle.numbers.specs.Packing.{Packs, Low, verdictNumber};
+ghost use Rattle.refusals.specs.Refusals.{refusalOf};
+ghost use Rattle.replies.specs.Replying.{said, saidOne, saidBoth};
+ghost use Rattle.text.specs.Answers.{saidLength, saidClaim};
+ghost use Rattle.numbers.specs.Answers.{stepsNumber, replyNumber, lengthNumber, claimNumber, isOne};
+ghost use Rattle.numbers.specs.Packing.{Packs, ClaimFits, Low, verdictNumber};
 
 // Refusal q as -q.
 fn refused(e: Refusal) -> u64
     ensures { λ r. ⌜ r ≡ replyNumber (refusedBy (refusalOf e)) ⌝ }
 {
-    let q = replies::number(e);
+    let q = refusals::number(e);
     18446744073709551615 - (q as u64 - 1)
 }
 
@@ -46,6 +50,27 @@ pub fn made(a: Made) -> u64
     match a {
         Made::Step(n, z) => n as u64 + 4294967296 * (z.len as u64),
         Made::Refused(e) => refused(e),
+    }
+}
+
+// The length of a formula that was read.
+pub fn length(a: Length) -> u64
+    ensures { λ r. ⌜ r ≡ lengthNumber (saidLength a) ⌝ }
+{
+    match a {
+        Length::Bytes(n) => n as u64,
+        Length::Refused(e) => refused(e),
+    }
+}
+
+// A claim that was read: d, and the lengths of its faces.
+pub fn claim(a: Claim) -> u64
+    requires { ⌜ ClaimFits a ⌝ }
+    ensures { λ r. ⌜ r ≡ claimNumber (saidClaim a) ⌝ }
+{
+    match a {
+        Claim::Read(d, x, y) => d as u64 + 65536 * (x as u64) + 4294967296 * (y as u64),
+        Claim::Refused(e) => refused(e),
     }
 }
 

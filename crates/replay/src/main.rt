@@ -20,7 +20,7 @@ fn step(a: Answer) -> Said {
         },
         Answer::Refused(q) => Said {
             yes: false,
-            number: replies::number(q),
+            number: refusals::number(q),
             len: 0,
         },
     }
@@ -35,7 +35,7 @@ fn result(m: Made) -> Said {
         },
         Made::Refused(q) => Said {
             yes: false,
-            number: replies::number(q),
+            number: refusals::number(q),
             len: 0,
         },
     }

@@ -28,11 +28,11 @@ use Rattle.ledger.specs.declared.Checked.the-variants.{Steps, Ill}
 use Rattle.ledger.proofs.LedgerLaws.{holds-led}
 use Rattle.steps.specs.Trees.{Known}
 use Rattle.steps.proofs.TreeLaws.{known}
-use Rattle.replies.specs.declared.Refusal.the-variants.{IllFormedLedger, NotAFormula, TooManyNodes, LargeDimension}
-use Rattle.replies.specs.declared.Refusal.{Refusal as Refused}
+use Rattle.refusals.specs.declared.Refusal.the-variants.{IllFormedLedger, NotAFormula, TooManyNodes, LargeDimension}
+use Rattle.refusals.specs.declared.Refusal.{Refusal as Refused}
 use Rattle.replies.specs.declared.Gate.{Gate}
 use Rattle.replies.specs.declared.Gate.the-variants.{Open, Shut}
-use Rattle.replies.specs.Replying.{refusalOf}
+use Rattle.refusals.specs.Refusals.{refusalOf}
 use Rattle.replies.specs.Asking.{limitsGate, ledgerGate, operandGate, operandsGate}
 
 -- A number is at least both where it is at least the larger.

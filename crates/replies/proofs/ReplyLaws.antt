@@ -25,11 +25,12 @@ use Rattle.steps.specs.declared.Ran.{Ran}
 use Rattle.steps.specs.declared.Ran.the-variants.{Done, NotBelow, NotImplied, Full}
 use Rattle.steps.specs.Running.{Leaves, Ends, Runs}
 use Rattle.steps.proofs.RunLaws.{runs-grew, runs-led}
-use Rattle.replies.specs.declared.Refusal.{Refusal}
-use Rattle.replies.specs.declared.Refusal.the-variants.{FullLedger, NotBelow as below, NotImplied as implied}
+use Rattle.refusals.specs.declared.Refusal.{Refusal}
+use Rattle.refusals.specs.declared.Refusal.the-variants.{FullLedger, NotBelow as below, NotImplied as implied}
 use Rattle.replies.specs.declared.Answer.{Answer}
 use Rattle.replies.specs.declared.Answer.the-variants.{Step as Number, Refused}
-use Rattle.replies.specs.Replying.{refusalOf, said, Replies}
+use Rattle.refusals.specs.Refusals.{refusalOf}
+use Rattle.replies.specs.Replying.{said, Replies}
 use Rattle.replies.specs.Ending.{EndingBy, Ending}
 
 -- What a call with these outputs and results replies, by its answer and the ledger after it.

@@ -6,15 +6,16 @@ use Rattle.calculus.specs.Emit.{not-below, not-implied}
 use Rattle.calculus.specs.Refusal
 use Rattle.calculus.specs.Door
 use Rattle.calculus.specs.Door.{Measure, answered, refused}
-use Rattle.replies.specs.declared.Refusal.{Refusal as Refused}
-use Rattle.replies.specs.declared.Refusal.the-variants.{IllFormedLedger, NotAFormula, TooManyNodes, LargeDimension, LargeResult, ShortOutput, FullLedger, NotBelow, NotImplied}
+use Rattle.refusals.specs.declared.Refusal.{Refusal as Refused}
+use Rattle.refusals.specs.declared.Refusal.the-variants.{IllFormedLedger, NotAFormula, TooManyNodes, LargeDimension, LargeResult, ShortOutput, FullLedger, NotBelow, NotImplied, NotAccepted}
 use Rattle.replies.specs.declared.Answer.{Answer}
 use Rattle.replies.specs.declared.Answer.the-variants.{Step, Refused as refusedBy}
 use Rattle.replies.specs.declared.Made.{Made}
 use Rattle.replies.specs.declared.Made.the-variants.{Step as MadeStep, Refused as refusedMade}
-use Rattle.replies.specs.Replying.{refusalOf, said, saidOne, saidBoth}
+use Rattle.refusals.specs.Refusals.{refusalOf}
+use Rattle.replies.specs.Replying.{said, saidOne, saidBoth}
 
--- Back from what is said; refusals 10 and 11 are none of the calls'.
+-- Back from what is said; 10 is the desk's own.
 refusalFrom : Refusal.Refusal → Refused
 refusalFrom Refusal.ill-formed-ledger = IllFormedLedger
 refusalFrom Refusal.not-a-formula = NotAFormula
@@ -26,7 +27,7 @@ refusalFrom Refusal.full-ledger = FullLedger
 refusalFrom (Refusal.failing not-below) = NotBelow
 refusalFrom (Refusal.failing not-implied) = NotImplied
 refusalFrom Refusal.does-not-follow = IllFormedLedger
-refusalFrom Refusal.not-accepted = IllFormedLedger
+refusalFrom Refusal.not-accepted = NotAccepted
 
 refusal-back : (e : Refused) → refusalFrom (refusalOf e) ≡ e
 unfolding refusalFrom
@@ -39,6 +40,7 @@ refusal-back ShortOutput = refl
 refusal-back FullLedger = refl
 refusal-back NotBelow = refl
 refusal-back NotImplied = refl
+refusal-back NotAccepted = refl
 
 answerFrom : Door.Answer → Answer
 answerFrom (answered n ms) = Step n

@@ -7,7 +7,7 @@ use Rattle.formula.specs.declared.Sort.{Sort}
 use Rattle.formula.specs.Bytes.{Tree, nodes, bound, maxNodes, maxBound}
 use Rattle.formula.specs.Answers.{pick}
 use Rattle.calculus.specs.Judgement.{Step}
-use Rattle.replies.specs.declared.Refusal.the-variants.{IllFormedLedger, NotAFormula, TooManyNodes, LargeDimension}
+use Rattle.refusals.specs.declared.Refusal.the-variants.{IllFormedLedger, NotAFormula, TooManyNodes, LargeDimension}
 use Rattle.replies.specs.declared.Gate.{Gate}
 use Rattle.replies.specs.declared.Gate.the-variants.{Open, Shut}
 

@@ -7,7 +7,7 @@ use Rattle.formula.specs.declared.Size.{Size}
 use Rattle.emission.specs.Emitting.{Undone}
 use Rattle.steps.specs.declared.Ran.{Ran}
 use Rattle.steps.specs.declared.Ran.the-variants.{Done, NotBelow, NotImplied, Full}
-use Rattle.replies.specs.declared.Refusal.the-variants.{FullLedger, NotBelow as not-below, NotImplied as not-implied}
+use Rattle.refusals.specs.declared.Refusal.the-variants.{FullLedger, NotBelow as not-below, NotImplied as not-implied}
 use Rattle.replies.specs.declared.Answer.{Answer}
 use Rattle.replies.specs.declared.Answer.the-variants.{Step, Refused}
 use Rattle.replies.specs.declared.Made.{Made}

@@ -3,29 +3,13 @@ use mathlib.Core.Path.{_≡_}
 use mathlib.Core.List.{List, [], _∷_}
 use Prim.Native.Nat.{ℕ}
 use Rattle.formula.specs.declared.Size.{Size}
-use Rattle.calculus.specs.Emit.{not-below, not-implied}
-use Rattle.calculus.specs.Refusal
-use Rattle.calculus.specs.Refusal.{failing}
 use Rattle.calculus.specs.Door
 use Rattle.calculus.specs.Door.{Call, Measure, answered, refused, reply}
-use Rattle.replies.specs.declared.Refusal.{Refusal as Refused}
-use Rattle.replies.specs.declared.Refusal.the-variants.{IllFormedLedger, NotAFormula, TooManyNodes, LargeDimension, LargeResult, ShortOutput, FullLedger, NotBelow, NotImplied}
+use Rattle.refusals.specs.Refusals.{refusalOf}
 use Rattle.replies.specs.declared.Answer.{Answer}
 use Rattle.replies.specs.declared.Answer.the-variants.{Step, Refused as refusedBy}
 use Rattle.replies.specs.declared.Made.{Made}
 use Rattle.replies.specs.declared.Made.the-variants.{Step as MadeStep, Refused as refusedMade}
-
--- The refusals.
-abbrev pub refusalOf : Refused → Refusal.Refusal
-refusalOf IllFormedLedger = Refusal.ill-formed-ledger
-refusalOf NotAFormula = Refusal.not-a-formula
-refusalOf TooManyNodes = Refusal.too-many-nodes
-refusalOf LargeDimension = Refusal.large-dimension
-refusalOf LargeResult = Refusal.large-result
-refusalOf ShortOutput = Refusal.short-output
-refusalOf FullLedger = Refusal.full-ledger
-refusalOf NotBelow = failing not-below
-refusalOf NotImplied = failing not-implied
 
 -- What is told of a result.
 abbrev pub measureOf : Size → Measure

@@ -1,9 +1,9 @@
 // Questions 1 to 4: the ledger, then that the operands are formulas, then their nodes, then their dimensions.
 use crate::Gate;
-use crate::Refusal;
 use formula::Measured;
 use formula::Sort;
 use ledger::Checked;
+use refusals::Refusal;
 ghost use mathlib.Core.Path.{_≡_};
 ghost use mathlib.Core.Bool.{_&&_};
 ghost use lib.Dec.{leb};

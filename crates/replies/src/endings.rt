@@ -1,8 +1,8 @@
 // Questions 7 to 9: what a run comes to, and its results.
 use crate::Answer;
 use crate::Made;
-use crate::Refusal;
 use formula::Size;
+use refusals::Refusal;
 use steps::Ran;
 ghost use mathlib.Core.Path.{_≡_};
 ghost use Prim.Native.Nat.{_≤_};

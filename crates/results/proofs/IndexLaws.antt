@@ -30,7 +30,7 @@ use Rattle.steps.specs.Trees.{Known}
 use Rattle.steps.proofs.TreeLaws.{read-known}
 use Rattle.transforms.specs.Transforms.{opOf, KnownOp}
 use Rattle.transforms.proofs.ImageLaws.{operand-known}
-use Rattle.replies.specs.declared.Refusal.{Refusal}
+use Rattle.refusals.specs.declared.Refusal.{Refusal}
 use Rattle.replies.specs.declared.Made.the-variants.{Refused}
 use Rattle.replies.specs.declared.Gate.the-variants.{Shut}
 use Rattle.replies.specs.Replying.{saidOne, Replies}

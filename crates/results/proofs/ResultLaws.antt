@@ -26,7 +26,7 @@ use Rattle.steps.specs.Running.{Runs}
 use Rattle.steps.specs.Trees.{Is}
 use Rattle.steps.proofs.TreeLaws.{is-short}
 use Rattle.transforms.proofs.ImageLaws.{limited-is, outcome-kept, in-front}
-use Rattle.replies.specs.declared.Refusal.the-variants.{LargeResult, ShortOutput}
+use Rattle.refusals.specs.declared.Refusal.the-variants.{LargeResult, ShortOutput}
 use Rattle.replies.specs.declared.Answer.{Answer}
 use Rattle.replies.specs.declared.Answer.the-variants.{Step, Refused}
 use Rattle.replies.specs.declared.Made.{Made}

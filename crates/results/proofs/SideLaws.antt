@@ -33,8 +33,8 @@ use Rattle.steps.proofs.TreeLaws.{read-known}
 use Rattle.boundary_steps.specs.Programs.{Sides}
 use Rattle.boundary_steps.proofs.BoundaryLaws.{side-is}
 use Rattle.transforms.proofs.ImageLaws.{zero-front, one-front}
-use Rattle.replies.specs.declared.Refusal.{Refusal}
-use Rattle.replies.specs.declared.Refusal.the-variants.{ShortOutput}
+use Rattle.refusals.specs.declared.Refusal.{Refusal}
+use Rattle.refusals.specs.declared.Refusal.the-variants.{ShortOutput}
 use Rattle.replies.specs.declared.Answer.{Answer}
 use Rattle.replies.specs.declared.Answer.the-variants.{Step, Refused}
 use Rattle.replies.specs.declared.Made.{Made}

@@ -19,7 +19,7 @@ use Rattle.formula.specs.Answers.{treeOf}
 use Rattle.steps.specs.Trees.{Known}
 use Rattle.steps.proofs.TreeLaws.{read-known}
 use Rattle.bounded_steps.specs.Programs.{bounded, emitBounded}
-use Rattle.replies.specs.declared.Refusal.{Refusal}
+use Rattle.refusals.specs.declared.Refusal.{Refusal}
 use Rattle.replies.specs.declared.Answer.{Answer}
 use Rattle.replies.specs.declared.Answer.the-variants.{Refused}
 use Rattle.replies.specs.declared.Gate.the-variants.{Shut}

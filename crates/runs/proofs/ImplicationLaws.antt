@@ -21,7 +21,7 @@ use Rattle.steps.specs.Running.{Runs}
 use Rattle.formula.specs.Answers.{treeOf}
 use Rattle.steps.specs.Trees.{Known}
 use Rattle.steps.proofs.TreeLaws.{read-known}
-use Rattle.replies.specs.declared.Refusal.{Refusal}
+use Rattle.refusals.specs.declared.Refusal.{Refusal}
 use Rattle.replies.specs.declared.Answer.{Answer}
 use Rattle.replies.specs.declared.Answer.the-variants.{Refused}
 use Rattle.replies.specs.declared.Gate.the-variants.{Shut}

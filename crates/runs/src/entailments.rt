@@ -1,8 +1,8 @@
 // entails and endpoint.
 use formula::Sort;
 use operations::Outcome;
+use refusals::Refusal;
 use replies::Answer;
-use replies::Refusal;
 ghost use mathlib.Core.List.{[]};
 ghost use Prim.Native.Nat.{_≤_};
 ghost use Rattle.calculus.specs.Door.{endpoint as endpointCall, entails as entailsCall};

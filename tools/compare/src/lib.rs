@@ -6,3 +6,4 @@ pub mod lists;
 pub mod replay;
 pub mod shrink;
 pub mod tally;
+pub mod texts;

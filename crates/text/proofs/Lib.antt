@@ -1,0 +1,7 @@
+pub mod WordLaws
+pub mod ScanLaws
+pub mod ReadLaws
+pub mod ParseLaws
+pub mod WholeLaws
+pub mod Advancing
+pub mod Accepting

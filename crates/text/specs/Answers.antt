@@ -1,0 +1,67 @@
+-- What the readers answer, and what they leave in the lent slices.
+use Prim.Native.Nat.{ℕ}
+use mathlib.Core.Path.{_≡_}
+use mathlib.Core.Bool.{_&&_}
+use mathlib.Core.List.{List}
+use lib.Dec.{leb}
+use lib.ListN.{length}
+use lib.Seq.{sets}
+use Rattle.formula.specs.declared.Sort.{Sort}
+use Rattle.formula.specs.declared.Sort.the-variants.{Faces}
+use Rattle.formula.specs.Bytes.{encode}
+use Rattle.formula.specs.Answers.{pick}
+use Rattle.calculus.specs.Refusal.{short-output}
+use Rattle.refusals.specs.Refusals.{refusalOf}
+use Rattle.text.specs.Reading.{Outcome, refused, done, map, readFormula, Claimed, readClaim}
+use Rattle.text.specs.declared.Length.{Length}
+use Rattle.text.specs.declared.Length.the-variants.{Bytes, Refused as refusedLength}
+use Rattle.text.specs.declared.Claim.{Claim}
+use Rattle.text.specs.declared.Claim.the-variants.{Read, Refused as refusedClaim}
+
+-- A length, or a refusal, and the output's bytes.
+pub record Delivered : Type 0 where
+  pub answer : Outcome ℕ
+  pub output : List ℕ
+
+-- What was made stands in front of the output where it fits; else 6, and every byte stays.
+abbrev pub delivered : Outcome (List ℕ) → List ℕ → Delivered
+delivered (refused e) out = record { answer = refused e; output = out }
+delivered (done x) out = pick (leb (length x) (length out)) (record { answer = done (length x); output = sets out 0 x }) (record { answer = refused short-output; output = out })
+
+-- What is said.
+abbrev pub saidLength : Length → Outcome ℕ
+saidLength (Bytes n) = done n
+saidLength (refusedLength e) = refused (refusalOf e)
+
+-- The answer and every byte of the output are those for the formula that the text is.
+pub record ReadsInto (s : Sort) (text out : List ℕ) (r : Length) (out′ : List ℕ) : Type 0 where
+  pub equal : delivered (map (encode s) (readFormula s text)) out ≡ record { answer = saidLength r; output = out′ }
+
+-- d and the lengths of the two faces.
+pub record Lengths : Type 0 where
+  pub dimensions : ℕ
+  pub left : ℕ
+  pub right : ℕ
+
+-- The same of a claim; 6 where one of the two outputs is too short, and then every byte of both stays.
+pub record BothDelivered : Type 0 where
+  pub answer : Outcome Lengths
+  pub left : List ℕ
+  pub right : List ℕ
+
+abbrev pub bothPut : ℕ → List ℕ → List ℕ → List ℕ → List ℕ → BothDelivered
+bothPut d x y a b =
+    pick (leb (length x) (length a) && leb (length y) (length b))
+    (record { answer = done (record { dimensions = d; left = length x; right = length y }); left = sets a 0 x; right = sets b 0 y })
+    (record { answer = refused short-output; left = a; right = b })
+
+abbrev pub bothDelivered : Outcome Claimed → List ℕ → List ℕ → BothDelivered
+bothDelivered (refused e) a b = record { answer = refused e; left = a; right = b }
+bothDelivered (done c) a b = bothPut (c .dimensions) (encode Faces (c .left)) (encode Faces (c .right)) a b
+
+abbrev pub saidClaim : Claim → Outcome Lengths
+saidClaim (Read d x y) = done (record { dimensions = d; left = x; right = y })
+saidClaim (refusedClaim e) = refused (refusalOf e)
+
+pub record ReadsClaim (text a b : List ℕ) (r : Claim) (a′ b′ : List ℕ) : Type 0 where
+  pub equal : bothDelivered (readClaim text) a b ≡ record { answer = saidClaim r; left = a′; right = b′ }
