@@ -22,7 +22,7 @@ use Rattle.text.specs.Tokens.{Token, tokens}
 use Rattle.text.specs.Words.{kindNamed, nodeNamed}
 use Rattle.text.specs.Reading.{Item, part, partList, number, close, Values, Outcome, refused, done, map, Reader, counted, bareNode, listNode, maxDim, run}
 use Rattle.text.specs.Scanning.{between, Lexes, Closes, numberAt, Numerals}
-use Rattle.text.specs.Parsing.{constantKind, nodeKind, Shape, single, double, dimension, nothing, Thing, bytesIn, nodesIn, boundIn, Ready, ShapeReader, from, partAt, partListAt, lastAt, bothAt, literalAt, endAt, bareAt, nodeAt, Found, Parses, EndFound, Ends}
+use Rattle.text.specs.Parsing.{headKind, Shape, single, double, dimension, Thing, bytesIn, nodesIn, boundIn, Ready, ShapeReader, from, partAt, partListAt, lastAt, bothAt, literalAt, bareAt, nodeAt, Found, Parses, EndFound, Ends}
 use Rattle.text.specs.declared.Token.the-variants.{Open, Close, Word, End}
 use Rattle.text.specs.declared.Closed.the-variants.{Behind, Missing}
 use Rattle.text.specs.declared.Numeral.the-variants.{Read as ReadNumber, Refused as RefusedNumber}
@@ -81,10 +81,6 @@ ends-read {c = c} h = record { it = record { reads = λ K. h .it .0 (c .left) K;
 
 pub ends-missing : {l : List ℕ} {c : Cursor} → Closes l (c .at) Missing → Ends l c (Refused NotAccepted)
 ends-missing {c = c} h = record { it = λ K. h .it (c .left) K }
-
-pub end-nothing : {l out : List ℕ} {c : Cursor} {r : Parsed} → Ends l c r → Parses nothing (endAt l c) l c out r out
-end-nothing {r = Read d} h = let k = h .it in record { it = record { thing = tt; reads = λ K. ap (map (λ v. (tt, v))) (k .reads K); ahead = omega (arith, k .ahead); inside = k .inside; wrote = refl; upto = omega (arith, k .same-to); count = omega (arith, k .same-left); low = omega arith } }
-end-nothing {r = Refused y} h = record { it = λ K. ap (map (λ v. (tt, v))) (h .it K) }
 
 -- The last part and the end, both parts, and the dimension.
 pub last-parses : {s : Sort} {l out out₁ : List ℕ} {c d : Cursor} {r : Parsed} → Found (single s) (partAt s l c) l c out d out₁ → Ends l d r → Parses (single s) (lastAt s l c) l c out r out₁
@@ -155,28 +151,28 @@ ready-behind {s} {out = out} {c = c} h f =
 no-true : {A : Type 0} → false ≡ true → A
 no-true e = absurd (let z : _≡_ {A = ℕ} 0 1 = cc in omega arith)
 
-pub bare-other : {A : Type 0} (x : Node A) (n : ℕ) (K : List Item) (go : Reader) → constantKind (kindBy x) ≡ false → bareNode x n K go ≡ refused not-accepted
+pub bare-other : {A : Type 0} (x : Node A) (n : ℕ) (K : List Item) (go : Reader) → headKind true (kindBy x) ≡ false → bareNode x n K go ≡ refused not-accepted
 bare-other (leaf t) n K go e = no-true (sym e)
 bare-other (lit g) n K go e = refl
 bare-other (one g) n K go e = refl
 bare-other (two g) n K go e = refl
 bare-other bad n K go e = refl
 
-pub bare-full : {A : Type 0} (x : Node A) (n : ℕ) (K : List Item) (go : Reader) → constantKind (kindBy x) ≡ true → n ≡ 0 → bareNode x n K go ≡ refused too-many-nodes
+pub bare-full : {A : Type 0} (x : Node A) (n : ℕ) (K : List Item) (go : Reader) → headKind true (kindBy x) ≡ true → n ≡ 0 → bareNode x n K go ≡ refused too-many-nodes
 bare-full (leaf t) n K go e z = ap (λ (n : ℕ). counted n (λ m. map (λ v. (t, v)) (go m K))) z
 bare-full (lit g) n K go e z = no-true e
 bare-full (one g) n K go e z = no-true e
 bare-full (two g) n K go e z = no-true e
 bare-full bad n K go e z = no-true e
 
-pub list-other : (s : Sort) (x : Node (Tree s)) (n : ℕ) (K : List Item) (go : Reader) → nodeKind (kindBy x) ≡ false → listNode s x n K go ≡ refused not-accepted
+pub list-other : (s : Sort) (x : Node (Tree s)) (n : ℕ) (K : List Item) (go : Reader) → headKind false (kindBy x) ≡ false → listNode s x n K go ≡ refused not-accepted
 list-other s (leaf t) n K go e = no-true (sym e)
 list-other s (lit g) n K go e = no-true (sym e)
 list-other s (one g) n K go e = no-true (sym e)
 list-other s (two g) n K go e = no-true (sym e)
 list-other s bad n K go e = refl
 
-pub list-full : (s : Sort) (x : Node (Tree s)) (n : ℕ) (K : List Item) (go : Reader) → nodeKind (kindBy x) ≡ true → n ≡ 0 → listNode s x n K go ≡ refused too-many-nodes
+pub list-full : (s : Sort) (x : Node (Tree s)) (n : ℕ) (K : List Item) (go : Reader) → headKind false (kindBy x) ≡ true → n ≡ 0 → listNode s x n K go ≡ refused too-many-nodes
 list-full s (leaf t) n K go e z = ap (λ (n : ℕ). listNode s (leaf t) n K go) z
 list-full s (lit g) n K go e z = ap (λ (n : ℕ). listNode s (lit g) n K go) z
 list-full s (one g) n K go e z = ap (λ (n : ℕ). listNode s (one g) n K go) z
@@ -193,7 +189,7 @@ abbrev pub headed : Cursor → Cursor
 headed c = record { at = c .at; to = c .to + 1; left = c .left - 1 }
 
 -- A bare constant.
-pub bare-found : {s : Sort} {l out : List ℕ} {c : Cursor} (k : ℕ) (x : Node (Tree s)) → nodeOf s k ≡ x → constantKind (kindBy x) ≡ true → (c .left ≡ 0 → ⊥) → c .at ≤ length l
+pub bare-found : {s : Sort} {l out : List ℕ} {c : Cursor} (k : ℕ) (x : Node (Tree s)) → nodeOf s k ≡ x → headKind true (kindBy x) ≡ true → (c .left ≡ 0 → ⊥) → c .at ≤ length l
     → Found (single s) (λ K. bareNode x (c .left) K (run (tokens (drop (c .at) l)))) l c out (headed c) (set out (c .to) k)
 bare-found {s} {l} {out} {c} k (leaf t) i e z h =
     let m = made-as s k (leaf t) i in
@@ -247,10 +243,29 @@ kindNumber Unknown = 4
 abbrev pub Listed : (s : Sort) → List ℕ → Cursor → Node (Tree s) → ShapeReader (single s)
 Listed s l c x K = listNode s x (c .left) K (run (tokens (drop (c .at) l)))
 
+-- A constant alone in its list.
+leaf-over : {s : Sort} {l out : List ℕ} {c : Cursor} {r : Parsed} (k : ℕ) (t : Tree s) → nodeOf s k ≡ leaf t → (c .left ≡ 0 → ⊥) → Ends l (headed c) r → Parses (single s) (Listed s l c (leaf t)) l c out r (set out (c .to) k)
+leaf-over {s} {l} {out} {c} {r = Read d} k t i z h =
+    let m = made-as s k (leaf t) i in
+    let e = h .it in
+    record {
+      it = record {
+        thing = t;
+        reads = λ K. one-less (c .left) (λ n. map (λ v. (t, v)) (run (tokens (drop (c .at) l)) n (close ∷ K))) z ∙ ap (map (λ v. (t, v))) (e .reads K);
+        ahead = omega (arith, e .ahead);
+        inside = e .inside;
+        wrote = ap (sets out (c .to)) (sym (m .bytes));
+        upto = let p = ap length (m .bytes) in omega (arith, e .same-to, p);
+        count = omega (arith, z, e .same-left, m .count);
+        low = omega (arith, m .top);
+      };
+    }
+leaf-over {l = l} {c = c} {r = Refused q} k t i z h = record { it = λ K. one-less (c .left) (λ n. map (λ v. (t, v)) (run (tokens (drop (c .at) l)) n (close ∷ K))) z ∙ ap (map (λ v. (t, v))) (h .it K) }
+
 module _ (s : Sort) {l out : List ℕ} (k : ℕ) {c : Cursor} {r : Parsed} (z : c .left ≡ 0 → ⊥) where
   pub list-nullary : (x : Node (Tree s)) → nodeOf s k ≡ x → kindBy x ≡ Nullary → Ends l (headed c) r → Parses (single s) (Listed s l c x) l c out r (set out (c .to) k)
   unfolding kindNumber
-  list-nullary (leaf t) i e h = node-over {y = nothing} {F = Listed s l c (leaf t)} {G = endAt l (headed c)} (λ u. t) (λ K. one-less (c .left) (λ n. map (λ v. (t, v)) (run (tokens (drop (c .at) l)) n (close ∷ K))) z ∙ sym (map-map (λ v. (t, v .1)) (λ v. (tt, v)) (from l (headed c) (close ∷ K)))) (λ u. made-as s k (leaf t) i) z (end-nothing h)
+  list-nullary (leaf t) i e h = leaf-over k t i z h
   list-nullary (lit g) i e h = absurd (let p = ap kindNumber e in omega (arith, p))
   list-nullary (one g) i e h = absurd (let p = ap kindNumber e in omega (arith, p))
   list-nullary (two g) i e h = absurd (let p = ap kindNumber e in omega (arith, p))
@@ -297,20 +312,20 @@ module _ {s : Sort} {l : List ℕ} {b : ℕ} {c : Cursor} {k : ℕ} (w : WordRea
   kind-is f e = ap (λ (n : Node (Tree s)). f (kindBy n)) (sym node-is) ∙ ap f (sym (w .told)) ∙ e
 
 module _ {s : Sort} {l out : List ℕ} {b : ℕ} {c : Cursor} {k : ℕ} (w : WordRead s l b c k (kindOf s k)) where
-  pub bare-refused : constantKind (kindOf s k) ≡ false → Parses (single s) (bareAt s l b c) l c out (Refused NotAccepted) out
-  bare-refused e = record { it = λ K. bare-other (nodeNamed s (between b (c .at) l)) (c .left) K (run (tokens (drop (c .at) l))) (kind-is w constantKind e) }
+  pub bare-refused : headKind true (kindOf s k) ≡ false → Parses (single s) (bareAt s l b c) l c out (Refused NotAccepted) out
+  bare-refused e = record { it = λ K. bare-other (nodeNamed s (between b (c .at) l)) (c .left) K (run (tokens (drop (c .at) l))) (kind-is w (headKind true) e) }
 
-  pub bare-none : constantKind (kindOf s k) ≡ true → c .left ≡ 0 → Parses (single s) (bareAt s l b c) l c out (Refused TooManyNodes) out
-  bare-none e z = record { it = λ K. bare-full (nodeNamed s (between b (c .at) l)) (c .left) K (run (tokens (drop (c .at) l))) (kind-is w constantKind e) z }
+  pub bare-none : headKind true (kindOf s k) ≡ true → c .left ≡ 0 → Parses (single s) (bareAt s l b c) l c out (Refused TooManyNodes) out
+  bare-none e z = record { it = λ K. bare-full (nodeNamed s (between b (c .at) l)) (c .left) K (run (tokens (drop (c .at) l))) (kind-is w (headKind true) e) z }
 
-  pub bare-read : constantKind (kindOf s k) ≡ true → (c .left ≡ 0 → ⊥) → c .at ≤ length l → Parses (single s) (bareAt s l b c) l c out (Read (headed c)) (set out (c .to) k)
-  bare-read e z h = record { it = bare-found k (nodeNamed s (between b (c .at) l)) (node-is w) (kind-is w constantKind e) z h }
+  pub bare-read : headKind true (kindOf s k) ≡ true → (c .left ≡ 0 → ⊥) → c .at ≤ length l → Parses (single s) (bareAt s l b c) l c out (Read (headed c)) (set out (c .to) k)
+  bare-read e z h = record { it = bare-found k (nodeNamed s (between b (c .at) l)) (node-is w) (kind-is w (headKind true) e) z h }
 
-  pub node-refused : nodeKind (kindOf s k) ≡ false → Parses (single s) (nodeAt s l b c) l c out (Refused NotAccepted) out
-  node-refused e = record { it = λ K. list-other s (nodeNamed s (between b (c .at) l)) (c .left) K (run (tokens (drop (c .at) l))) (kind-is w nodeKind e) }
+  pub node-refused : headKind false (kindOf s k) ≡ false → Parses (single s) (nodeAt s l b c) l c out (Refused NotAccepted) out
+  node-refused e = record { it = λ K. list-other s (nodeNamed s (between b (c .at) l)) (c .left) K (run (tokens (drop (c .at) l))) (kind-is w (headKind false) e) }
 
-  pub node-none : nodeKind (kindOf s k) ≡ true → c .left ≡ 0 → Parses (single s) (nodeAt s l b c) l c out (Refused TooManyNodes) out
-  node-none e z = record { it = λ K. list-full s (nodeNamed s (between b (c .at) l)) (c .left) K (run (tokens (drop (c .at) l))) (kind-is w nodeKind e) z }
+  pub node-none : headKind false (kindOf s k) ≡ true → c .left ≡ 0 → Parses (single s) (nodeAt s l b c) l c out (Refused TooManyNodes) out
+  node-none e z = record { it = λ K. list-full s (nodeNamed s (between b (c .at) l)) (c .left) K (run (tokens (drop (c .at) l))) (kind-is w (headKind false) e) z }
 
   module _ {r : Parsed} (z : c .left ≡ 0 → ⊥) where
     pub node-nullary : kindOf s k ≡ Nullary → Ends l (headed c) r → Parses (single s) (nodeAt s l b c) l c out r (set out (c .to) k)
@@ -327,8 +342,8 @@ module _ {s : Sort} {l out : List ℕ} {b : ℕ} {c : Cursor} {k : ℕ} (w : Wor
       node-binary e h = list-binary s k z (nodeNamed s (between b (c .at) l)) (node-is w) (kind-is w (λ x. x) e) h
 
 -- No node begins with a byte that is none.
-pub node-unknown : {A : Type 0} (s : Sort) (k : ℕ) {t : Bool} → t ≡ nodeKind (kindOf s k) → t ≡ true → kindOf s k ≡ Unknown → A
-node-unknown s k e h u = no-true (sym (e ∙ ap nodeKind u) ∙ h)
+pub node-unknown : {A : Type 0} (s : Sort) (k : ℕ) {t : Bool} → t ≡ headKind false (kindOf s k) → t ≡ true → kindOf s k ≡ Unknown → A
+node-unknown s k e h u = no-true (sym (e ∙ ap (headKind false) u) ∙ h)
 
 -- What is refused within a list is refused of it.
 pub last-refused : {s : Sort} {l out out₁ : List ℕ} {c : Cursor} {q : Refusal} → Parses (single s) (partAt s l c) l c out (Refused q) out₁ → Parses (single s) (lastAt s l c) l c out (Refused q) out₁

@@ -28,7 +28,7 @@ abbrev pub delivered : Outcome (List ℕ) → List ℕ → Delivered
 delivered (refused e) out = record { answer = refused e; output = out }
 delivered (done x) out = pick (leb (length x) (length out)) (record { answer = done (length x); output = sets out 0 x }) (record { answer = refused short-output; output = out })
 
--- What is said.
+-- What an answer says.
 abbrev pub saidLength : Length → Outcome ℕ
 saidLength (Bytes n) = done n
 saidLength (refusedLength e) = refused (refusalOf e)
@@ -43,25 +43,29 @@ pub record Lengths : Type 0 where
   pub left : ℕ
   pub right : ℕ
 
--- The same of a claim; 6 where one of the two outputs is too short, and then every byte of both stays.
+-- Those lengths, or a refusal, and the bytes of both outputs.
 pub record BothDelivered : Type 0 where
   pub answer : Outcome Lengths
   pub left : List ℕ
   pub right : List ℕ
 
+-- The faces x and y stand in front of the outputs where both fit; else 6, and every byte of both stays.
 abbrev pub bothPut : ℕ → List ℕ → List ℕ → List ℕ → List ℕ → BothDelivered
 bothPut d x y a b =
     pick (leb (length x) (length a) && leb (length y) (length b))
     (record { answer = done (record { dimensions = d; left = length x; right = length y }); left = sets a 0 x; right = sets b 0 y })
     (record { answer = refused short-output; left = a; right = b })
 
+-- What is delivered of a claim.
 abbrev pub bothDelivered : Outcome Claimed → List ℕ → List ℕ → BothDelivered
 bothDelivered (refused e) a b = record { answer = refused e; left = a; right = b }
 bothDelivered (done c) a b = bothPut (c .dimensions) (encode Faces (c .left)) (encode Faces (c .right)) a b
 
+-- What an answer says.
 abbrev pub saidClaim : Claim → Outcome Lengths
 saidClaim (Read d x y) = done (record { dimensions = d; left = x; right = y })
 saidClaim (refusedClaim e) = refused (refusalOf e)
 
+-- The answer and every byte of both outputs are those for the claim that the text is.
 pub record ReadsClaim (text a b : List ℕ) (r : Claim) (a′ b′ : List ℕ) : Type 0 where
   pub equal : bothDelivered (readClaim text) a b ≡ record { answer = saidClaim r; left = a′; right = b′ }

@@ -1,7 +1,7 @@
 -- For private contracts: formulas at places of a text, and their bytes.
 use Prim.Native.Nat.{ℕ, suc, _+_, _*_, _≤_, _<_, max}
 use mathlib.Core.Path.{_≡_}
-use mathlib.Core.Bool.{Bool, true, false}
+use mathlib.Core.Bool.{Bool, true, false, not}
 use mathlib.Core.List.{List, [], _∷_, _++_}
 use lib.ListN.{length, drop}
 use lib.Seq.{sets}
@@ -18,51 +18,39 @@ use Rattle.text.specs.declared.Cursor.{Cursor}
 use Rattle.text.specs.declared.Parsed.{Parsed}
 use Rattle.text.specs.declared.Parsed.the-variants.{Read, Refused}
 
--- Is it a constant?
-abbrev pub constantKind : Kind → Bool
-constantKind Nullary = true
-constantKind Literal = false
-constantKind Unary = false
-constantKind Binary = false
-constantKind Unknown = false
+-- May it stand there: bare only a constant, first in a list any node?
+abbrev pub headKind : Bool → Kind → Bool
+headKind bare Nullary = true
+headKind bare Literal = not bare
+headKind bare Unary = not bare
+headKind bare Binary = not bare
+headKind bare Unknown = false
 
--- Is it a node?
-abbrev pub nodeKind : Kind → Bool
-nodeKind Nullary = true
-nodeKind Literal = true
-nodeKind Unary = true
-nodeKind Binary = true
-nodeKind Unknown = false
-
--- What a function reads: a formula, two, the dimension of a literal, or nothing.
+-- What a function reads: a formula, two, or the dimension of a literal.
 pub data Shape : Type 0 where
   single double : Sort → Shape
-  dimension nothing : Shape
+  dimension : Shape
 
 abbrev pub Thing : Shape → Type 0
 Thing (single s) = Tree s
 Thing (double s) = Tree s × Tree s
 Thing dimension = ℕ
-Thing nothing = Unit {0}
 
 -- Its bytes, its nodes, and its bound.
 abbrev pub bytesIn : (x : Shape) → Thing x → List ℕ
 bytesIn (single s) t = encode s t
 bytesIn (double s) t = encode s (t .0) ++ encode s (t .1)
 bytesIn dimension n = dimBytes n
-bytesIn nothing x = []
 
 abbrev pub nodesIn : (x : Shape) → Thing x → ℕ
 nodesIn (single s) t = nodes s t
 nodesIn (double s) t = nodes s (t .0) + nodes s (t .1)
 nodesIn dimension n = 0
-nodesIn nothing x = 0
 
 abbrev pub boundIn : (x : Shape) → Thing x → ℕ
 boundIn (single s) t = bound s t
 boundIn (double s) t = max (bound s (t .0)) (bound s (t .1))
 boundIn dimension n = suc n
-boundIn nothing x = 0
 
 -- The cursor stands in the text, and the output has room for the nodes that are left.
 pub record Ready (c : Cursor) (l out : List ℕ) : Type 0 where
@@ -81,7 +69,7 @@ ShapeReader x = (K : List Item) → Outcome (Thing x × Values K)
 abbrev pub from : List ℕ → Cursor → (K : List Item) → Outcome (Values K)
 from l c K = run (tokens (drop (c .at) l)) (c .left) K
 
--- A part from the cursor on; one whose list opened before; the last part of a list, both parts, the dimension of one, or its end.
+-- A part from the cursor on; one whose list opened before; the last part of a list, both parts, or the dimension of one.
 abbrev pub partAt : (s : Sort) → List ℕ → Cursor → ShapeReader (single s)
 partAt s l c K = from l c (part s ∷ K)
 
@@ -96,9 +84,6 @@ bothAt s l c K = map (λ v. ((v .0, v .1 .0), v .1 .1)) (from l c (part s ∷ pa
 
 abbrev pub literalAt : List ℕ → Cursor → ShapeReader dimension
 literalAt l c K = from l c (number maxDim ∷ close ∷ K)
-
-abbrev pub endAt : List ℕ → Cursor → ShapeReader nothing
-endAt l c K = map (λ v. (tt, v)) (from l c (close ∷ K))
 
 -- The word from b to the cursor, bare or first in a list, and what follows.
 abbrev pub bareAt : (s : Sort) → List ℕ → ℕ → Cursor → ShapeReader (single s)

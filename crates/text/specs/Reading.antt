@@ -35,6 +35,7 @@ pub data Outcome (A : Type 0) : Type 0 where
   refused : Refusal → Outcome A
   done : A → Outcome A
 
+-- The same, of what is made of it.
 abbrev pub map : {A B : Type 0} → (A → B) → Outcome A → Outcome B
 map f (refused e) = refused e
 map f (done x) = done (f x)

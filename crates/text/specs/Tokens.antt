@@ -10,20 +10,22 @@ pub data Token : Type 0 where
   opening closing : Token
   word : List ℕ → Token
 
--- What a byte is: a parenthesis, a separator, or a part of a word.
+-- What a byte can be: a parenthesis, a separator, or a part of a word.
 pub data Class : Type 0 where
   opens closes separates spells : Class
 
+-- What a byte is: ( opens, ) closes, a space and byte 10 separate, all others spell words.
 abbrev pub classOf : ℕ → Class
 classOf b = pick (eqb b 40) opens (pick (eqb b 41) closes (pick (eqb b 32) separates (pick (eqb b 10) separates spells)))
 
--- Does the list begin inside a word?
+-- Is it a part of a word?
 abbrev pub isSpelling : Class → Bool
 isSpelling opens = false
 isSpelling closes = false
 isSpelling separates = false
 isSpelling spells = true
 
+-- Does the list begin inside a word?
 abbrev pub beginsWord : List ℕ → Bool
 beginsWord [] = false
 beginsWord (b ∷ l) = isSpelling (classOf b)

@@ -1,6 +1,5 @@
 -- The words of texts.
 use Prim.Native.Nat.{ℕ, suc, _+_}
-use Prim.Native.String.{String}
 use mathlib.Core.List.{List, [], _∷_}
 use Rattle.formula.specs.declared.Sort.{Sort}
 use Rattle.formula.specs.declared.Sort.the-variants.{Faces, Intervals}
@@ -9,9 +8,9 @@ use Rattle.formula.specs.Answers.{pick, sameBytes}
 use Rattle.calculus.specs.Table.{textBytes}
 
 -- The names of the nodes of a sort, in the order of their kind bytes.
-abbrev pub names : Sort → List String
-names Faces = "ff" ∷ "ft" ∷ "at0" ∷ "at1" ∷ "fand" ∷ "for" ∷ []
-names Intervals = "i0" ∷ "i1" ∷ "dim" ∷ "neg" ∷ "meet" ∷ "join" ∷ []
+abbrev pub names : Sort → List (List ℕ)
+names Faces = textBytes "ff" ∷ textBytes "ft" ∷ textBytes "at0" ∷ textBytes "at1" ∷ textBytes "fand" ∷ textBytes "for" ∷ []
+names Intervals = textBytes "i0" ∷ textBytes "i1" ∷ textBytes "dim" ∷ textBytes "neg" ∷ textBytes "meet" ∷ textBytes "join" ∷ []
 
 -- The first kind byte of a sort.
 abbrev pub firstKind : Sort → ℕ
@@ -19,9 +18,9 @@ firstKind Faces = 0
 firstKind Intervals = 16
 
 -- The place of a word in a list of names; behind the last where it is none of them.
-abbrev pub placeOf : List ℕ → List String → ℕ
+abbrev pub placeOf : List ℕ → List (List ℕ) → ℕ
 placeOf w [] = 0
-placeOf w (x ∷ xs) = pick (sameBytes (textBytes x) w) 0 (suc (placeOf w xs))
+placeOf w (x ∷ xs) = pick (sameBytes x w) 0 (suc (placeOf w xs))
 
 -- The kind byte that a word names in a sort; a byte of no node where it names none.
 unfoldable pub kindNamed : Sort → List ℕ → ℕ

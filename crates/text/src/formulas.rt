@@ -14,30 +14,17 @@ ghost use mathlib.Core.Path.{_≡_};
 ghost use Prim.Native.Nat.{_≤_, _<_};
 ghost use lib.ListN.{length};
 ghost use Rattle.formula.specs.Answers.{kindOf};
-ghost use Rattle.text.specs.Parsing.{constantKind, nodeKind, single, double, dimension, Ready, Behind, partAt, partListAt, lastAt, bothAt, literalAt, bareAt, nodeAt, Parses, Ends};
+ghost use Rattle.text.specs.Parsing.{headKind, single, double, dimension, Ready, Behind, partAt, partListAt, lastAt, bothAt, literalAt, bareAt, nodeAt, Parses, Ends};
 
-// Whether the byte begins a constant.
-fn is_constant(sort: Sort, kind: u8) -> bool
-    ensures { λ r. ⌜ r ≡ constantKind (kindOf sort kind) ⌝ }
+// Whether the byte may stand there: bare only a constant, first in a list any node.
+fn is_head(sort: Sort, kind: u8, bare: bool) -> bool
+    ensures { λ r. ⌜ r ≡ headKind bare (kindOf sort kind) ⌝ }
 {
     match formula::kind_of(sort, kind) {
         Kind::Nullary => true,
-        Kind::Literal => false,
-        Kind::Unary => false,
-        Kind::Binary => false,
-        Kind::Unknown => false,
-    }
-}
-
-// Whether the byte begins a node.
-fn is_node(sort: Sort, kind: u8) -> bool
-    ensures { λ r. ⌜ r ≡ nodeKind (kindOf sort kind) ⌝ }
-{
-    match formula::kind_of(sort, kind) {
-        Kind::Nullary => true,
-        Kind::Literal => true,
-        Kind::Unary => true,
-        Kind::Binary => true,
+        Kind::Literal => !bare,
+        Kind::Unary => !bare,
+        Kind::Binary => !bare,
         Kind::Unknown => false,
     }
 }
@@ -49,7 +36,7 @@ fn bare(text: &[u8], sort: Sort, from: usize, c: Cursor, out: &mut [u8]) -> Pars
 {
     let end = c.at;
     let kind = words::kind_named(sort, &text[from..end]);
-    if !is_constant(sort, kind) {
+    if !is_head(sort, kind, true) {
         return Parsed::Refused(Refusal::NotAccepted);
     }
     if c.left == 0 {
@@ -162,7 +149,7 @@ fn node(text: &[u8], sort: Sort, from: usize, c: Cursor, out: &mut [u8]) -> Pars
 {
     let end = c.at;
     let kind = words::kind_named(sort, &text[from..end]);
-    if !is_node(sort, kind) {
+    if !is_head(sort, kind, false) {
         return Parsed::Refused(Refusal::NotAccepted);
     }
     if c.left == 0 {

@@ -1,66 +1,42 @@
 // The words of texts.
 use formula::Sort;
 ghost use mathlib.Core.Path.{_≡_};
+ghost use mathlib.Core.List.{[], _∷_};
 ghost use Rattle.formula.specs.Answers.{sameBytes};
-ghost use Rattle.text.specs.Words.{kindNamed, zero-word, succ-word, entails-word};
+ghost use Rattle.text.specs.Words.{placeOf, kindNamed, zero-word, succ-word, entails-word};
 
-// The kind byte of the face that a word names; 6, which is none, where it names none.
-fn face_kind(w: &[u8]) -> u8
-    ensures { λ r. ⌜ r ≡ kindNamed Sort.Faces (now (w .entry)) ⌝ }
+// The place of a word among six names; 6 where it is none of them.
+fn place(w: &[u8], a: &[u8], b: &[u8], c: &[u8], d: &[u8], e: &[u8], f: &[u8]) -> u8
+    ensures { λ r. ⌜ r ≡ placeOf (now (w .entry)) (now (a .entry) ∷ now (b .entry) ∷ now (c .entry) ∷ now (d .entry) ∷ now (e .entry) ∷ now (f .entry) ∷ []) ⌝ }
 {
-    if formula::same(b"ff", w) {
+    if formula::same(a, w) {
         return 0;
     }
-    if formula::same(b"ft", w) {
+    if formula::same(b, w) {
         return 1;
     }
-    if formula::same(b"at0", w) {
+    if formula::same(c, w) {
         return 2;
     }
-    if formula::same(b"at1", w) {
+    if formula::same(d, w) {
         return 3;
     }
-    if formula::same(b"fand", w) {
+    if formula::same(e, w) {
         return 4;
     }
-    if formula::same(b"for", w) {
+    if formula::same(f, w) {
         return 5;
     }
     6
 }
 
-// The kind byte of the interval that a word names; 22, which is none, where it names none.
-fn interval_kind(w: &[u8]) -> u8
-    ensures { λ r. ⌜ r ≡ kindNamed Sort.Intervals (now (w .entry)) ⌝ }
-{
-    if formula::same(b"i0", w) {
-        return 16;
-    }
-    if formula::same(b"i1", w) {
-        return 17;
-    }
-    if formula::same(b"dim", w) {
-        return 18;
-    }
-    if formula::same(b"neg", w) {
-        return 19;
-    }
-    if formula::same(b"meet", w) {
-        return 20;
-    }
-    if formula::same(b"join", w) {
-        return 21;
-    }
-    22
-}
-
-// The kind byte that a word names in a sort.
+// The kind byte that a word names in a sort; 6 or 22, which is none, where it names none.
 pub(crate) fn kind_named(sort: Sort, w: &[u8]) -> u8
     ensures { λ r. ⌜ r ≡ kindNamed sort (now (w .entry)) ⌝ }
 {
     match sort {
-        Sort::Faces => face_kind(w),
-        Sort::Intervals => interval_kind(w),
+        Sort::Faces => place(w, b"ff", b"ft", b"at0", b"at1", b"fand", b"for"),
+        Sort::Intervals => 16 + place(w, b"i0", b"i1", b"dim", b"neg", b"meet", b"join"),
     }
 }
 

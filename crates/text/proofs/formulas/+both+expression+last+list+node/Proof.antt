@@ -20,7 +20,7 @@ use Rattle.text.proofs.formulas.+both+expression+last+list+node.Lts-nod
 use Rattle.formula.proofs.kind_of.Reads as kind-of-reads
 use Rattle.text.proofs.formulas.bare.Reads as bare-reads
 use Rattle.text.proofs.formulas.end_list.Reads as end-list-reads
-use Rattle.text.proofs.formulas.is_node.Reads as is-node-reads
+use Rattle.text.proofs.formulas.is_head.Reads as is-head-reads
 use Rattle.text.proofs.formulas.literal.Reads as literal-reads
 use Rattle.text.proofs.tokens.token_at.Reads as token-at-reads
 use Rattle.text.proofs.words.kind_named.Reads as kind-named-reads
@@ -98,7 +98,7 @@ list-claims t = (token-at-reads.Asked, token-at-reads.Learnt, node-below t, node
 
 -- What node is told of the functions that it calls.
 abbrev node-claims : ℕ → node-lts.Claims
-node-claims t = (kind-named-reads.Asked, kind-named-reads.Learnt, is-node-reads.Asked, is-node-reads.Learnt, kind-of-reads.Asked, kind-of-reads.Learnt, end-list-reads.Asked, end-list-reads.Learnt, literal-reads.Asked, literal-reads.Learnt, last-below t, last.Post, both-below t, both.Post)
+node-claims t = (kind-named-reads.Asked, kind-named-reads.Learnt, is-head-reads.Asked, is-head-reads.Learnt, kind-of-reads.Asked, kind-of-reads.Learnt, end-list-reads.Asked, end-list-reads.Learnt, literal-reads.Asked, literal-reads.Learnt, last-below t, last.Post, both-below t, both.Post)
 
 both-expression-requires : (t : ℕ) → both-lts.Need-expression-requires (both-claims t) (both-at t) both.Post
 both-expression-requires t c κs = (omega (arith, c .before .before .before .pre .0), c .before .before .before .pre .1)
@@ -232,14 +232,14 @@ node-part-kind-named-end t c = omega (arith, c .before .before .pre .1 .0 .1)
 node-kind-named-requires : (t : ℕ) → node-lts.Need-kind-named-requires (node-claims t) (node-at t) node.Post
 node-kind-named-requires t c κs = search needs
 
-node-is-node-requires : (t : ℕ) → node-lts.Need-is-node-requires (node-claims t) (node-at t) node.Post
-node-is-node-requires t c κs = search needs
+node-is-head-requires : (t : ℕ) → node-lts.Need-is-head-requires (node-claims t) (node-at t) node.Post
+node-is-head-requires t c κs = search needs
 
 node-returns : (t : ℕ) → node-lts.Need-returns (node-claims t) (node-at t) node.Post
-node-returns t c = node-refused (word-as (c .before .before .kind-named .ensures)) (sym (c .before .is-node .ensures) ∙ not-true _ (c .if1 .taken))
+node-returns t c = node-refused (word-as (c .before .before .kind-named .ensures)) (sym (c .before .is-head .ensures) ∙ not-true _ (c .if1 .taken))
 
 node-returns-2 : (t : ℕ) → node-lts.Need-returns-2 (node-claims t) (node-at t) node.Post
-node-returns-2 t c = node-none (word-as (c .before .before .before .before .kind-named .ensures)) (sym (c .before .before .before .is-node .ensures) ∙ not-false _ (c .before .before .if1 .left)) (c .if2 .taken)
+node-returns-2 t c = node-none (word-as (c .before .before .before .before .kind-named .ensures)) (sym (c .before .before .before .is-head .ensures) ∙ not-false _ (c .before .before .if1 .left)) (c .if2 .taken)
 
 node-slice-write-out : (t : ℕ) → node-lts.Need-slice-write-out (node-claims t) (node-at t) node.Post
 node-slice-write-out t c = omega (arith, c .before .before .before .before .before .before .before .before .pre .1 .1 .room, c .if2 .left)
@@ -308,7 +308,7 @@ node-same-length-5 : (t : ℕ) → node-lts.Need-same-length-5 (node-claims t) (
 node-same-length-5 t c = search needs
 
 node-returns-7 : (t : ℕ) → node-lts.Need-returns-7 (node-claims t) (node-at t) node.Post
-node-returns-7 t c = node-unknown (c .before .before .before .before .before .before .before .before .before .before .before .before .args .sort) _ (c .before .before .before .before .before .before .before .is-node .ensures) (not-false _ (c .before .before .before .before .before .before .if1 .left)) (sym (c .before .before .kind-of .ensures) ∙ c .enum-told5 .given .1)
+node-returns-7 t c = node-unknown (c .before .before .before .before .before .before .before .before .before .before .before .before .args .sort) _ (c .before .before .before .before .before .before .before .is-head .ensures) (not-false _ (c .before .before .before .before .before .before .if1 .left)) (sym (c .before .before .kind-of .ensures) ∙ c .enum-told5 .given .1)
 
 pub +both+expression+last+list+node-spec : {M : Type 1} → statement M
 +both+expression+last+list+node-spec =
@@ -364,7 +364,7 @@ pub +both+expression+last+list+node-spec : {M : Type 1} → statement M
     (node-part-kind-named-start t)
     (node-part-kind-named-end t)
     (node-kind-named-requires t)
-    (node-is-node-requires t)
+    (node-is-head-requires t)
     (node-returns t)
     (node-returns-2 t)
     (node-slice-write-out t)

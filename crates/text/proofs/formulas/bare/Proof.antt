@@ -18,14 +18,14 @@ part-kind-named-end c = omega (arith, c .before .before .pre .0 .1)
 kind-named-requires : tie.Need-kind-named-requires
 kind-named-requires c κs = search needs
 
-is-constant-requires : tie.Need-is-constant-requires
-is-constant-requires c κs = search needs
+is-head-requires : tie.Need-is-head-requires
+is-head-requires c κs = search needs
 
 returns : tie.Need-returns
-returns c = bare-refused (word-as (c .before .before .kind-named .ensures)) (sym (c .before .is-constant .ensures) ∙ not-true _ (c .if1 .taken))
+returns c = bare-refused (word-as (c .before .before .kind-named .ensures)) (sym (c .before .is-head .ensures) ∙ not-true _ (c .if1 .taken))
 
 returns-2 : tie.Need-returns-2
-returns-2 c = bare-none (word-as (c .before .before .before .before .kind-named .ensures)) (sym (c .before .before .before .is-constant .ensures) ∙ not-false _ (c .before .before .if1 .left)) (c .if2 .taken)
+returns-2 c = bare-none (word-as (c .before .before .before .before .kind-named .ensures)) (sym (c .before .before .before .is-head .ensures) ∙ not-false _ (c .before .before .if1 .left)) (c .if2 .taken)
 
 slice-write-out : tie.Need-slice-write-out
 slice-write-out c = omega (arith, c .before .before .before .before .before .before .before .before .pre .1 .room, c .if2 .left)
@@ -40,7 +40,7 @@ same-length : tie.Need-same-length
 same-length c = search needs
 
 returns-3 : tie.Need-returns-3
-returns-3 c = bare-read (word-as (c .before .before .before .before .before .kind-named .ensures)) (sym (c .before .before .before .before .is-constant .ensures) ∙ not-false _ (c .before .before .before .if1 .left)) (c .before .if2 .left) (c .before .before .before .before .before .before .before .before .before .pre .0 .1)
+returns-3 c = bare-read (word-as (c .before .before .before .before .before .kind-named .ensures)) (sym (c .before .before .before .before .is-head .ensures) ∙ not-false _ (c .before .before .before .if1 .left)) (c .before .if2 .left) (c .before .before .before .before .before .before .before .before .before .pre .0 .1)
 
 pub bare-spec : {M : Type 1} → statement M
 bare-spec =
@@ -50,7 +50,7 @@ bare-spec =
     part-kind-named-start
     part-kind-named-end
     kind-named-requires
-    is-constant-requires
+    is-head-requires
     returns
     returns-2
     slice-write-out
