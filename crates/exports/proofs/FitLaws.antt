@@ -37,7 +37,7 @@ use Rattle.text.specs.Reading.{readFormula, Claimed, readClaim}
 use Rattle.text.specs.Answers.{Delivered, delivered, saidLength, ReadsInto, Lengths, BothDelivered, bothDelivered, saidClaim, ReadsClaim}
 use Rattle.text.specs.declared.Length.{Length}
 use Rattle.text.specs.declared.Claim.{Claim}
-use Rattle.text.proofs.Accepting.{ClaimWithin, claim-read}
+use Rattle.grammar.proofs.Accepting.{ClaimWithin, claim-read}
 use Rattle.numbers.specs.Answers.{deskNumber, replyNumber, lengthNumber, claimNumber, Reads, ReadsBoth, Numbers}
 use Rattle.numbers.specs.Packing.{Packs, ClaimFits, Low, verdictNumber}
 

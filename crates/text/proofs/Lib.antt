@@ -3,5 +3,3 @@ pub mod ScanLaws
 pub mod ReadLaws
 pub mod ParseLaws
 pub mod WholeLaws
-pub mod Advancing
-pub mod Accepting

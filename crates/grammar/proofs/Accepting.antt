@@ -8,11 +8,11 @@ use Rattle.formula.specs.declared.Sort.{Sort}
 use Rattle.formula.specs.declared.Sort.the-variants.{Faces}
 use Rattle.formula.specs.Formula.{Face}
 use Rattle.formula.specs.Bytes.{Tree, nodes, bound, maxNodes, maxBound}
 use Rattle.text.specs.Tokens.{Token, word, tokens}
 use Rattle.text.specs.Words.{entails-word}
 use Rattle.text.specs.Grammar.{Number, Formula, Claim, entails}
 use Rattle.text.specs.Reading.{Item, formula, part, number, claim, Values, Outcome, refused, done, map, counted, run, readFormula, Claimed, readClaim}
-use Rattle.text.proofs.Advancing.{Then, Follows, Left, Fits, Cost, free, node, succ, anew, spend, Spends, for-free, for-node, for-succ, for-anew, Paid, spend-paid, Back, Advance, Stuck, Advances, goes, stuck, advances, nothing-follows}
+use Rattle.grammar.proofs.Advancing.{Then, Follows, Left, Fits, Cost, free, node, succ, anew, spend, Spends, for-free, for-node, for-succ, for-anew, Paid, spend-paid, Back, Advance, Stuck, Advances, goes, stuck, advances, nothing-follows}
 
 -- What is done was done below a function.
 done-one : {A : Type 0} {x y : A} → done x ≡ done y → x ≡ y
