@@ -3,7 +3,7 @@ use Prim.Native.Nat.{ℕ, zero, suc, _+_, _-_, _≤_}
 use native.Mathlib.Omega.{arith}
 use mathlib.Core.Path.{_≡_, refl, sym, ap, _∙_, subst}
 use mathlib.Core.Logic.{_↔_}
-use mathlib.Core.List.{List, [], _∷_, cons≢nil}
+use mathlib.Core.List.{List, [], _∷_, _++_, cons≢nil}
 use Rattle.formula.specs.declared.Sort.{Sort}
 use Rattle.formula.specs.declared.Sort.the-variants.{Faces}
 use Rattle.formula.specs.Formula.{Face}
@@ -42,50 +42,50 @@ pub record Reads (n : ℕ) (K : List Item) (v : Values K) (ts : List Token) : Ty
 abbrev Sound : List Token → Type 0
 Sound ts = (n : ℕ) (K : List Item) (v : Values K) → run ts n K ≡ done v → Reads n K v ts
 
-sound-token : {ts : List Token} → Sound ts → (i : Item) (x : Token) (n : ℕ) (K : List Item) (v : Values (i ∷ K)) → Advances i x K → run (x ∷ ts) n (i ∷ K) ≡ done v → Reads n (i ∷ K) v (x ∷ ts)
+sound-token : {ts : List Token} → Sound ts → (i : Item) (x : Token) (n : ℕ) (K : List Item) (v : Values (i ∷ K)) → Advances i x → run (x ∷ ts) n (i ∷ K) ≡ done v → Reads n (i ∷ K) v (x ∷ ts)
 unfolding run
 sound-token {ts} h i x n K v (goes a) e =
-    let p = spend-done (a .cost) n (λ m. map (a .with) (run ts m (a .after))) (sym (a .reads n ts) ∙ e) in
-    let d = map-done (a .with) (run ts (p .left) (a .after)) (p .then) in
-    let r = h (p .left) (a .after) (d .value) (d .holds) in
-    subst (λ v. Reads n (i ∷ K) v (x ∷ ts)) (d .gives) (record { follows = a .there ts (d .value) (r .follows); fits = a .fits n (p .left) (d .value) (p .spends) (r .fits) })
-sound-token {ts} h i x n K v (stuck a) e = not-done (sym (a .refuses n ts) ∙ e)
+    let p = spend-done (a .cost) n (λ m. map (a .with K) (run ts m (a .adds ++ K))) (sym (a .reads K n ts) ∙ e) in
+    let d = map-done (a .with K) (run ts (p .left) (a .adds ++ K)) (p .then) in
+    let r = h (p .left) (a .adds ++ K) (d .value) (d .holds) in
+    subst (λ v. Reads n (i ∷ K) v (x ∷ ts)) (d .gives) (record { follows = a .there K ts (d .value) (r .follows); fits = a .fits K n (p .left) (d .value) (p .spends) (r .fits) })
+sound-token {ts} h i x n K v (stuck a) e = not-done (sym (a .refuses K n ts) ∙ e)
 
 pub sound : (ts : List Token) → Sound ts
 unfolding run
 sound [] n [] v e = record { follows = refl; fits = tt }
 sound [] n (i ∷ K) v e = not-done e
 sound (x ∷ ts) n [] v e = not-done e
-sound (x ∷ ts) n (i ∷ K) v e = sound-token (sound ts) i x n K v (advances i x K) e
+sound (x ∷ ts) n (i ∷ K) v e = sound-token (sound ts) i x n K v (advances i x) e
 
 abbrev Complete : List Token → Type 0
 Complete ts = (n : ℕ) (K : List Item) (v : Values K) → Follows K v ts → Fits n K v → run ts n K ≡ done v
 
-complete-token : {ts : List Token} → Complete ts → (i : Item) (x : Token) (n : ℕ) (K : List Item) (v : Values (i ∷ K)) → Advances i x K → Follows (i ∷ K) v (x ∷ ts) → Fits n (i ∷ K) v → run (x ∷ ts) n (i ∷ K) ≡ done v
+complete-token : {ts : List Token} → Complete ts → (i : Item) (x : Token) (n : ℕ) (K : List Item) (v : Values (i ∷ K)) → Advances i x → Follows (i ∷ K) v (x ∷ ts) → Fits n (i ∷ K) v → run (x ∷ ts) n (i ∷ K) ≡ done v
 unfolding run
 complete-token {ts} h i x n K v (goes a) f g =
-    let b = a .back ts v f in
-    let p = a .pays n (b .value) (subst (Fits n (i ∷ K)) (sym (b .gives)) g) in
-    a .reads n ts ∙ spend-paid (λ m. map (a .with) (run ts m (a .after))) (p .spends) ∙ ap (map (a .with)) (h (p .left) (a .after) (b .value) (b .holds) (p .then)) ∙ ap done (b .gives)
-complete-token {ts} h i x n K v (stuck a) f g = absurd (a .nothing ts v f)
+    let b = a .back K ts v f in
+    let p = a .pays K n (b .value) (subst (Fits n (i ∷ K)) (sym (b .gives)) g) in
+    a .reads K n ts ∙ spend-paid (λ m. map (a .with K) (run ts m (a .adds ++ K))) (p .spends) ∙ ap (map (a .with K)) (h (p .left) (a .adds ++ K) (b .value) (b .holds) (p .then)) ∙ ap done (b .gives)
+complete-token {ts} h i x n K v (stuck a) f g = absurd (a .nothing K ts v f)
 
 pub complete : (ts : List Token) → Complete ts
 unfolding run
 complete [] n [] v f g = refl
 complete [] n (i ∷ K) v f g = absurd (nothing-follows i K v f)
 complete (x ∷ ts) n [] v f g = absurd (cons≢nil f)
-complete (x ∷ ts) n (i ∷ K) v f g = complete-token (complete ts) i x n K v (advances i x K) f g
+complete (x ∷ ts) n (i ∷ K) v f g = complete-token (complete ts) i x n K v (advances i x) f g
 
 -- The grammar gives one thing at most.
-unique-token : {ts : List Token} → ((K : List Item) (v u : Values K) → Follows K v ts → Follows K u ts → v ≡ u) → (i : Item) (x : Token) (K : List Item) (v u : Values (i ∷ K)) → Advances i x K → Follows (i ∷ K) v (x ∷ ts) → Follows (i ∷ K) u (x ∷ ts) → v ≡ u
-unique-token {ts} h i x K v u (goes a) f g = let b = a .back ts v f in let c = a .back ts u g in sym (b .gives) ∙ ap (a .with) (h (a .after) (b .value) (c .value) (b .holds) (c .holds)) ∙ c .gives
-unique-token {ts} h i x K v u (stuck a) f g = absurd (a .nothing ts v f)
+unique-token : {ts : List Token} → ((K : List Item) (v u : Values K) → Follows K v ts → Follows K u ts → v ≡ u) → (i : Item) (x : Token) (K : List Item) (v u : Values (i ∷ K)) → Advances i x → Follows (i ∷ K) v (x ∷ ts) → Follows (i ∷ K) u (x ∷ ts) → v ≡ u
+unique-token {ts} h i x K v u (goes a) f g = let b = a .back K ts v f in let c = a .back K ts u g in sym (b .gives) ∙ ap (a .with K) (h (a .adds ++ K) (b .value) (c .value) (b .holds) (c .holds)) ∙ c .gives
+unique-token {ts} h i x K v u (stuck a) f g = absurd (a .nothing K ts v f)
 
 pub unique : (ts : List Token) (K : List Item) (v u : Values K) → Follows K v ts → Follows K u ts → v ≡ u
 unique [] [] v u f g = refl
 unique [] (i ∷ K) v u f g = absurd (nothing-follows i K v f)
 unique (x ∷ ts) [] v u f g = refl
-unique (x ∷ ts) (i ∷ K) v u f g = unique-token (unique ts) i x K v u (advances i x K) f g
+unique (x ∷ ts) (i ∷ K) v u f g = unique-token (unique ts) i x K v u (advances i x) f g
 
 -- The theorems ---------------------------------------------------------------------------------------------
 

@@ -3,7 +3,7 @@ use Prim.Native.Nat.{ℕ, zero, suc, pred, _+_, _≤_, max}
 use native.Mathlib.Omega.{arith}
 use mathlib.Core.Path.{_≡_, refl, sym, ap, ap₂, _∙_, subst}
 use mathlib.Core.Bool.{Bool, true, false}
-use mathlib.Core.List.{List, [], _∷_, nil≢cons, head-eq-of-cons-eq, tail-eq-of-cons-eq}
+use mathlib.Core.List.{List, [], _∷_, _++_, nil≢cons, head-eq-of-cons-eq, tail-eq-of-cons-eq}
 use Rattle.formula.specs.declared.Sort.{Sort}
 use Rattle.formula.specs.Bytes.{Tree, Node, leaf, lit, one, two, bad, nodes, bound, maxNodes, maxBound}
 use Rattle.formula.specs.Answers.{pick, sameBytes}
@@ -94,25 +94,42 @@ pub record Back {A B : Type 0} (f : A → B) (P : A → Type 0) (y : B) : Type 0
   pub holds : P value
   pub gives : f value ≡ y
 
--- What is expected behind the token: `with` makes what was expected of what is read then.
-pub record Advance (i : Item) (x : Token) (K : List Item) : Type 0 where
-  pub after : List Item
-  pub with : Values after → Values (i ∷ K)
+-- How what is expected changes: the item in front gives way to others, for a cost.
+pub data Move : Item → Token → List Item → Cost → Type 0 where
+  opens-part : {s : Sort} → Move (part s) opening (partList s ∷ []) free
+  bare-part : {s : Sort} {w : List ℕ} {t : Tree s} → nodeNamed s w ≡ leaf t → Move (part s) (word w) [] node
+  leaf-part : {s : Sort} {w : List ℕ} {t : Tree s} → nodeNamed s w ≡ leaf t → Move (partList s) (word w) (close ∷ []) node
+  lit-part : {s : Sort} {w : List ℕ} {g : ℕ → Tree s} → nodeNamed s w ≡ lit g → Move (partList s) (word w) (number maxDim ∷ close ∷ []) node
+  one-part : {s : Sort} {w : List ℕ} {g : Tree s → Tree s} → nodeNamed s w ≡ one g → Move (partList s) (word w) (part s ∷ close ∷ []) node
+  two-parts : {s : Sort} {w : List ℕ} {g : Tree s → Tree s → Tree s} → nodeNamed s w ≡ two g → Move (partList s) (word w) (part s ∷ part s ∷ close ∷ []) node
+  opens-number : {k : ℕ} → Move (number k) opening (numberList k ∷ []) free
+  bare-number : {k : ℕ} {w : List ℕ} → w ≡ zero-word → Move (number k) (word w) [] free
+  zero-number : {k : ℕ} {w : List ℕ} → w ≡ zero-word → Move (numberList k) (word w) (close ∷ []) free
+  succ-number : {k : ℕ} {w : List ℕ} → w ≡ succ-word → Move (numberList k) (word w) (number (pred k) ∷ close ∷ []) (succ k)
+  closes : Move close Tokens.closing [] free
+  begins : {w : List ℕ} → w ≡ entails-word → Move claim (word w) [] free
+  whole : {s : Sort} {x : Token} {adds : List Item} {c : Cost} → Move (part s) x adds c → Move (formula s) x adds (anew c)
+
+-- What is expected behind the token, in front of whatever is expected behind the item: `with` makes what was expected of what is read then.
+pub record Advance (i : Item) (x : Token) : Type 0 where
+  pub adds : List Item
+  pub with : (K : List Item) → Values (adds ++ K) → Values (i ∷ K)
   pub cost : Cost
-  pub reads : (n : ℕ) (ts : List Token) → token i x n K (run ts) ≡ spend cost n (λ m. map with (run ts m after))
-  pub there : (ts : List Token) (u : Values after) → Follows after u ts → Follows (i ∷ K) (with u) (x ∷ ts)
-  pub back : (ts : List Token) (v : Values (i ∷ K)) → Follows (i ∷ K) v (x ∷ ts) → Back with (λ u. Follows after u ts) v
-  pub pays : (n : ℕ) (u : Values after) → Fits n (i ∷ K) (with u) → Paid cost n (λ m. Fits m after u)
-  pub fits : (n m : ℕ) (u : Values after) → Spends cost n m → Fits m after u → Fits n (i ∷ K) (with u)
+  pub move : Move i x adds cost
+  pub reads : (K : List Item) (n : ℕ) (ts : List Token) → token i x n K (run ts) ≡ spend cost n (λ m. map (with K) (run ts m (adds ++ K)))
+  pub there : (K : List Item) (ts : List Token) (u : Values (adds ++ K)) → Follows (adds ++ K) u ts → Follows (i ∷ K) (with K u) (x ∷ ts)
+  pub back : (K : List Item) (ts : List Token) (v : Values (i ∷ K)) → Follows (i ∷ K) v (x ∷ ts) → Back (with K) (λ u. Follows (adds ++ K) u ts) v
+  pub pays : (K : List Item) (n : ℕ) (u : Values (adds ++ K)) → Fits n (i ∷ K) (with K u) → Paid cost n (λ m. Fits m (adds ++ K) u)
+  pub fits : (K : List Item) (n m : ℕ) (u : Values (adds ++ K)) → Spends cost n m → Fits m (adds ++ K) u → Fits n (i ∷ K) (with K u)
 
 -- No text goes on with the token.
-pub record Stuck (i : Item) (x : Token) (K : List Item) : Type 0 where
-  pub refuses : (n : ℕ) (ts : List Token) → token i x n K (run ts) ≡ refused not-accepted
-  pub nothing : (ts : List Token) (v : Values (i ∷ K)) → Follows (i ∷ K) v (x ∷ ts) → ⊥
+pub record Stuck (i : Item) (x : Token) : Type 0 where
+  pub refuses : (K : List Item) (n : ℕ) (ts : List Token) → token i x n K (run ts) ≡ refused not-accepted
+  pub nothing : (K : List Item) (ts : List Token) (v : Values (i ∷ K)) → Follows (i ∷ K) v (x ∷ ts) → ⊥
 
-pub data Advances (i : Item) (x : Token) (K : List Item) : Type 0 where
-  goes : Advance i x K → Advances i x K
-  stuck : Stuck i x K → Advances i x K
+pub data Advances (i : Item) (x : Token) : Type 0 where
+  goes : Advance i x → Advances i x
+  stuck : Stuck i x → Advances i x
 
 map-id : {A : Type 0} (o : Outcome A) → o ≡ map (λ u. u) o
 map-id (refused e) = refl
@@ -181,12 +198,12 @@ one-one e = cc
 two-one : {A : Type 0} {f g : A → A → A} → two f ≡ two g → f ≡ g
 two-one e = cc
 
-bare-other : {s : Sort} {w : List ℕ} {x : Node (Tree s)} (K : List Item) → nodeNamed s w ≡ x → (nodeNumber x ≡ 0 → ⊥) → ((n : ℕ) (ts : List Token) → bareNode x n K (run ts) ≡ refused not-accepted) → Stuck (part s) (word w) K
+bare-other : {s : Sort} {w : List ℕ} {x : Node (Tree s)} → nodeNamed s w ≡ x → (nodeNumber x ≡ 0 → ⊥) → ((K : List Item) (n : ℕ) (ts : List Token) → bareNode x n K (run ts) ≡ refused not-accepted) → Stuck (part s) (word w)
 unfolding nodeNumber
-bare-other {s} {w} K p z r =
+bare-other {s} {w} p z r =
     record {
-      refuses = λ n ts. ap (λ y. bareNode y n K (run ts)) p ∙ r n ts;
-      nothing = λ ts v f. z (ap nodeNumber (sym p ∙ bare-is (f .first) .0));
+      refuses = λ K n ts. ap (λ y. bareNode y n K (run ts)) p ∙ r K n ts;
+      nothing = λ K ts v f. z (ap nodeNumber (sym p ∙ bare-is (f .first) .0));
     }
 
 -- A node was paid for.
@@ -196,25 +213,26 @@ node-spends for-node = refl
 paid-node : {n m : ℕ} {P : ℕ → Type 0} → suc m ≡ n → P m → Paid node n P
 paid-node {m = m} e x = record { left = m; spends = subst (λ k. Spends node k m) e for-node; then = x }
 
-bare-advances : (s : Sort) (w : List ℕ) (K : List Item) (x : Node (Tree s)) → nodeNamed s w ≡ x → Advances (part s) (word w) K
+bare-advances : (s : Sort) (w : List ℕ) (x : Node (Tree s)) → nodeNamed s w ≡ x → Advances (part s) (word w)
 unfolding nodeNumber
-bare-advances s w K (leaf t) p =
+bare-advances s w (leaf t) p =
     let k = made-as s (kindNamed s w) (leaf t) p in
     goes
     (record {
-      after = K;
-      with = λ u. (t, u);
+      adds = [];
+      with = λ K u. (t, u);
       cost = node;
-      reads = λ n ts. ap (λ y. bareNode y n K (run ts)) p;
-      there = λ ts u f. record { behind = ts; first = bare-leaf p; second = f };
-      back = λ ts v f. let q = bare-is (f .first) in record { value = v .1; holds = subst (Follows K (v .1)) (q .1) (f .second); gives = ap (λ t. (t, v .1)) (leaf-one (sym p ∙ q .0)) };
-      pays = λ n u f. paid-node {m = f .rest} (omega (arith, f .spent, k .count)) (f .then);
-      fits = λ n m u q f. record { rest = m; spent = omega (arith, node-spends q, k .count); low = omega (arith, k .top); then = f };
+      move = bare-part p;
+      reads = λ K n ts. ap (λ y. bareNode y n K (run ts)) p;
+      there = λ K ts u f. record { behind = ts; first = bare-leaf p; second = f };
+      back = λ K ts v f. let q = bare-is (f .first) in record { value = v .1; holds = subst (Follows K (v .1)) (q .1) (f .second); gives = ap (λ t. (t, v .1)) (leaf-one (sym p ∙ q .0)) };
+      pays = λ K n u f. paid-node {m = f .rest} (omega (arith, f .spent, k .count)) (f .then);
+      fits = λ K n m u q f. record { rest = m; spent = omega (arith, node-spends q, k .count); low = omega (arith, k .top); then = f };
     })
-bare-advances s w K (lit g) p = stuck (bare-other K p (λ e. omega (arith, e)) (λ n ts. refl))
-bare-advances s w K (one g) p = stuck (bare-other K p (λ e. omega (arith, e)) (λ n ts. refl))
-bare-advances s w K (two g) p = stuck (bare-other K p (λ e. omega (arith, e)) (λ n ts. refl))
-bare-advances s w K bad p = stuck (bare-other K p (λ e. omega (arith, e)) (λ n ts. refl))
+bare-advances s w (lit g) p = stuck (bare-other p (λ e. omega (arith, e)) (λ K n ts. refl))
+bare-advances s w (one g) p = stuck (bare-other p (λ e. omega (arith, e)) (λ K n ts. refl))
+bare-advances s w (two g) p = stuck (bare-other p (λ e. omega (arith, e)) (λ K n ts. refl))
+bare-advances s w bad p = stuck (bare-other p (λ e. omega (arith, e)) (λ K n ts. refl))
 
 -- What the list of a formula holds, where its first word is known.
 record OfLit (s : Sort) (g : ℕ → Tree s) (y : Tree s) (ts us : List Token) : Type 0 where
@@ -271,74 +289,78 @@ of-bad p (one-list q d) = absurd (let k = ap nodeNumber (sym p ∙ q) in omega (
 of-bad p (two-list q d e) = absurd (let k = ap nodeNumber (sym p ∙ q) in omega (arith, k))
 
 -- The first word of a list.
-list-other : {s : Sort} {w : List ℕ} (K : List Item) → nodeNamed s w ≡ bad → Stuck (partList s) (word w) K
-list-other {s} {w} K p =
+list-other : {s : Sort} {w : List ℕ} → nodeNamed s w ≡ bad → Stuck (partList s) (word w)
+list-other {s} {w} p =
     record {
-      refuses = λ n ts. ap (λ y. listNode s y n K (run ts)) p;
-      nothing = λ ts v f. of-bad p (f .first);
+      refuses = λ K n ts. ap (λ y. listNode s y n K (run ts)) p;
+      nothing = λ K ts v f. of-bad p (f .first);
     }
 
-list-advances : (s : Sort) (w : List ℕ) (K : List Item) (x : Node (Tree s)) → nodeNamed s w ≡ x → Advances (partList s) (word w) K
-list-advances s w K (leaf t) p =
+list-advances : (s : Sort) (w : List ℕ) (x : Node (Tree s)) → nodeNamed s w ≡ x → Advances (partList s) (word w)
+list-advances s w (leaf t) p =
     let k = made-as s (kindNamed s w) (leaf t) p in
     goes
     (record {
-      after = close ∷ K;
-      with = λ u. (t, u);
+      adds = close ∷ [];
+      with = λ K u. (t, u);
       cost = node;
-      reads = λ n ts. ap (λ y. listNode s y n K (run ts)) p;
-      there = λ ts u f. record { behind = f .behind; first = subst (λ us. Formula s t (opening ∷ word w ∷ us) (f .behind)) (sym (f .first)) (leaf-list p); second = f .second };
-      back = λ ts v f. let q = of-leaf p (f .first) in record { value = v .1; holds = record { behind = f .behind; first = q .1; second = f .second }; gives = ap (λ t. (t, v .1)) (q .0) };
-      pays = λ n u f. paid-node {m = f .rest} (omega (arith, f .spent, k .count)) (f .then);
-      fits = λ n m u q f. record { rest = m; spent = omega (arith, node-spends q, k .count); low = omega (arith, k .top); then = f };
+      move = leaf-part p;
+      reads = λ K n ts. ap (λ y. listNode s y n K (run ts)) p;
+      there = λ K ts u f. record { behind = f .behind; first = subst (λ us. Formula s t (opening ∷ word w ∷ us) (f .behind)) (sym (f .first)) (leaf-list p); second = f .second };
+      back = λ K ts v f. let q = of-leaf p (f .first) in record { value = v .1; holds = record { behind = f .behind; first = q .1; second = f .second }; gives = ap (λ t. (t, v .1)) (q .0) };
+      pays = λ K n u f. paid-node {m = f .rest} (omega (arith, f .spent, k .count)) (f .then);
+      fits = λ K n m u q f. record { rest = m; spent = omega (arith, node-spends q, k .count); low = omega (arith, k .top); then = f };
     })
-list-advances s w K (lit g) p =
+list-advances s w (lit g) p =
     goes
     (record {
-      after = number maxDim ∷ close ∷ K;
-      with = λ u. (g (u .0), u .1);
+      adds = number maxDim ∷ close ∷ [];
+      with = λ K u. (g (u .0), u .1);
       cost = node;
-      reads = λ n ts. ap (λ y. listNode s y n K (run ts)) p;
-      there = λ ts u f. record { behind = f .second .behind; first = lit-list p (subst (Number (u .0) ts) (f .second .first) (f .first)); second = f .second .second };
-      back = λ ts v f. let q = of-lit p (f .first) in record { value = (q .value, v .1); holds = record { behind = Tokens.closing ∷ f .behind; first = q .text; second = record { behind = f .behind; first = refl; second = f .second } }; gives = ap (λ t. (t, v .1)) (q .is) };
-      pays = λ n u f. let k = made-as s (kindNamed s w) (lit g) p (u .0) in paid-node {m = f .rest} (omega (arith, f .spent, k .count)) (omega (arith, f .low, k .top), f .then);
-      fits = λ n m u q f. let k = made-as s (kindNamed s w) (lit g) p (u .0) in record { rest = m; spent = omega (arith, node-spends q, k .count); low = omega (arith, k .top, f .0); then = f .1 };
+      move = lit-part p;
+      reads = λ K n ts. ap (λ y. listNode s y n K (run ts)) p;
+      there = λ K ts u f. record { behind = f .second .behind; first = lit-list p (subst (Number (u .0) ts) (f .second .first) (f .first)); second = f .second .second };
+      back = λ K ts v f. let q = of-lit p (f .first) in record { value = (q .value, v .1); holds = record { behind = Tokens.closing ∷ f .behind; first = q .text; second = record { behind = f .behind; first = refl; second = f .second } }; gives = ap (λ t. (t, v .1)) (q .is) };
+      pays = λ K n u f. let k = made-as s (kindNamed s w) (lit g) p (u .0) in paid-node {m = f .rest} (omega (arith, f .spent, k .count)) (omega (arith, f .low, k .top), f .then);
+      fits = λ K n m u q f. let k = made-as s (kindNamed s w) (lit g) p (u .0) in record { rest = m; spent = omega (arith, node-spends q, k .count); low = omega (arith, k .top, f .0); then = f .1 };
     })
-list-advances s w K (one g) p =
+list-advances s w (one g) p =
     goes
     (record {
-      after = part s ∷ close ∷ K;
-      with = λ u. (g (u .0), u .1);
+      adds = part s ∷ close ∷ [];
+      with = λ K u. (g (u .0), u .1);
       cost = node;
-      reads = λ n ts. ap (λ y. listNode s y n K (run ts)) p;
-      there = λ ts u f. record { behind = f .second .behind; first = one-list p (subst (Formula s (u .0) ts) (f .second .first) (f .first)); second = f .second .second };
-      back = λ ts v f. let q = of-one p (f .first) in record { value = (q .value, v .1); holds = record { behind = Tokens.closing ∷ f .behind; first = q .text; second = record { behind = f .behind; first = refl; second = f .second } }; gives = ap (λ t. (t, v .1)) (q .is) };
-      pays = λ n u f. let k = made-as s (kindNamed s w) (one g) p (u .0) in paid-node {m = f .rest + nodes s (u .0)} (omega (arith, f .spent, k .count)) (record { rest = f .rest; spent = refl; low = omega (arith, f .low, k .top); then = f .then });
-      fits = λ n m u q f. let k = made-as s (kindNamed s w) (one g) p (u .0) in record { rest = f .rest; spent = omega (arith, node-spends q, k .count, f .spent); low = omega (arith, k .top, f .low); then = f .then };
+      move = one-part p;
+      reads = λ K n ts. ap (λ y. listNode s y n K (run ts)) p;
+      there = λ K ts u f. record { behind = f .second .behind; first = one-list p (subst (Formula s (u .0) ts) (f .second .first) (f .first)); second = f .second .second };
+      back = λ K ts v f. let q = of-one p (f .first) in record { value = (q .value, v .1); holds = record { behind = Tokens.closing ∷ f .behind; first = q .text; second = record { behind = f .behind; first = refl; second = f .second } }; gives = ap (λ t. (t, v .1)) (q .is) };
+      pays = λ K n u f. let k = made-as s (kindNamed s w) (one g) p (u .0) in paid-node {m = f .rest + nodes s (u .0)} (omega (arith, f .spent, k .count)) (record { rest = f .rest; spent = refl; low = omega (arith, f .low, k .top); then = f .then });
+      fits = λ K n m u q f. let k = made-as s (kindNamed s w) (one g) p (u .0) in record { rest = f .rest; spent = omega (arith, node-spends q, k .count, f .spent); low = omega (arith, k .top, f .low); then = f .then };
     })
-list-advances s w K (two g) p =
+list-advances s w (two g) p =
     goes
     (record {
-      after = part s ∷ part s ∷ close ∷ K;
-      with = λ u. (g (u .0) (u .1 .0), u .1 .1);
+      adds = part s ∷ part s ∷ close ∷ [];
+      with = λ K u. (g (u .0) (u .1 .0), u .1 .1);
       cost = node;
-      reads = λ n ts. ap (λ y. listNode s y n K (run ts)) p;
-      there = λ ts u f. record { behind = f .second .second .behind; first = two-list p (f .first) (subst (Formula s (u .1 .0) (f .behind)) (f .second .second .first) (f .second .first)); second = f .second .second .second };
-      back = λ ts v f. let q = of-two p (f .first) in record { value = (q .left, (q .right, v .1)); holds = record { behind = q .between; first = q .first; second = record { behind = Tokens.closing ∷ f .behind; first = q .second; second = record { behind = f .behind; first = refl; second = f .second } } }; gives = ap (λ t. (t, v .1)) (q .is) };
-      pays = λ n u f. let k = made-as s (kindNamed s w) (two g) p (u .0) (u .1 .0) in paid-node {m = f .rest + nodes s (u .1 .0) + nodes s (u .0)} (omega (arith, f .spent, k .count)) (record { rest = f .rest + nodes s (u .1 .0); spent = refl; low = omega (arith, f .low, k .top); then = record { rest = f .rest; spent = refl; low = omega (arith, f .low, k .top); then = f .then } });
-      fits = λ n m u q f. let k = made-as s (kindNamed s w) (two g) p (u .0) (u .1 .0) in record { rest = f .then .rest; spent = omega (arith, node-spends q, k .count, f .spent, f .then .spent); low = omega (arith, k .top, f .low, f .then .low); then = f .then .then };
+      move = two-parts p;
+      reads = λ K n ts. ap (λ y. listNode s y n K (run ts)) p;
+      there = λ K ts u f. record { behind = f .second .second .behind; first = two-list p (f .first) (subst (Formula s (u .1 .0) (f .behind)) (f .second .second .first) (f .second .first)); second = f .second .second .second };
+      back = λ K ts v f. let q = of-two p (f .first) in record { value = (q .left, (q .right, v .1)); holds = record { behind = q .between; first = q .first; second = record { behind = Tokens.closing ∷ f .behind; first = q .second; second = record { behind = f .behind; first = refl; second = f .second } } }; gives = ap (λ t. (t, v .1)) (q .is) };
+      pays = λ K n u f. let k = made-as s (kindNamed s w) (two g) p (u .0) (u .1 .0) in paid-node {m = f .rest + nodes s (u .1 .0) + nodes s (u .0)} (omega (arith, f .spent, k .count)) (record { rest = f .rest + nodes s (u .1 .0); spent = refl; low = omega (arith, f .low, k .top); then = record { rest = f .rest; spent = refl; low = omega (arith, f .low, k .top); then = f .then } });
+      fits = λ K n m u q f. let k = made-as s (kindNamed s w) (two g) p (u .0) (u .1 .0) in record { rest = f .then .rest; spent = omega (arith, node-spends q, k .count, f .spent, f .then .spent); low = omega (arith, k .top, f .low, f .then .low); then = f .then .then };
     })
-list-advances s w K bad p = stuck (list-other K p)
+list-advances s w bad p = stuck (list-other p)
 
 -- Where nothing was paid, as many nodes are left.
 free-fits : {n m : ℕ} (P : ℕ → Type 0) → Spends free n m → P m → P n
 free-fits P for-free x = x
 
-part-advances : (s : Sort) (x : Token) (K : List Item) → Advances (part s) x K
+part-advances : (s : Sort) (x : Token) → Advances (part s) x
 unfolding Starts
-part-advances s opening K = goes (record { after = partList s ∷ K; with = λ u. u; cost = free; reads = λ n ts. map-id (run ts n (partList s ∷ K)); there = λ ts u f. record { behind = f .behind; first = f .first; second = f .second }; back = λ ts v f. record { value = v; holds = record { behind = f .behind; first = f .first; second = f .second }; gives = refl }; pays = λ n u f. record { left = n; spends = for-free; then = f }; fits = λ n m u q f. free-fits (λ m. Fits m (partList s ∷ K) u) q f })
-part-advances s Tokens.closing K = stuck (record { refuses = λ n ts. refl; nothing = λ ts v f. formula-starts (f .first) })
-part-advances s (word w) K = bare-advances s w K (nodeNamed s w) refl
+part-advances s opening = goes (record { adds = partList s ∷ []; with = λ K u. u; cost = free; move = opens-part; reads = λ K n ts. map-id (run ts n (partList s ∷ K)); there = λ K ts u f. record { behind = f .behind; first = f .first; second = f .second }; back = λ K ts v f. record { value = v; holds = record { behind = f .behind; first = f .first; second = f .second }; gives = refl }; pays = λ K n u f. record { left = n; spends = for-free; then = f }; fits = λ K n m u q f. free-fits (λ m. Fits m (partList s ∷ K) u) q f })
+part-advances s Tokens.closing = stuck (record { refuses = λ K n ts. refl; nothing = λ K ts v f. formula-starts (f .first) })
+part-advances s (word w) = bare-advances s w (nodeNamed s w) refl
 
 -- Numbers.
 zero-is : {n : ℕ} {w : List ℕ} {ts us : List Token} → Number n (word w ∷ ts) us → (w ≡ zero-word) × (0 ≡ n) × (us ≡ ts)
@@ -356,8 +378,11 @@ z-no-s : sameBytes zero-word succ-word ≡ false
 unfolding sameBytes textBytes
 z-no-s = refl
 
+pub zero-no-succ : {A : Type 0} {w : List ℕ} → w ≡ zero-word → w ≡ succ-word → A
+zero-no-succ p q = no-true (sym z-no-s ∙ same-word (sym q ∙ p))
+
 -- Equal words have equal bytes.
-word-one : {w x : List ℕ} → word w ≡ word x → w ≡ x
+pub word-one : {w x : List ℕ} → word w ≡ word x → w ≡ x
 word-one e = cc
 
 -- Tokens of different kinds are different.
@@ -381,25 +406,26 @@ above-pred (suc k) h g = omega (arith, g)
 anew-spends : {c : Cost} {n m : ℕ} → Spends (anew c) n m → Spends c maxNodes m
 anew-spends (for-anew h) = h
 
-number-word : (k : ℕ) (w : List ℕ) (K : List Item) (b : Bool) → sameBytes zero-word w ≡ b → Advances (number k) (word w) K
-number-word k w K true q =
+number-word : (k : ℕ) (w : List ℕ) (b : Bool) → sameBytes zero-word w ≡ b → Advances (number k) (word w)
+number-word k w true q =
     let z : w ≡ zero-word = sym (same-true zero-word w q) in
     goes
     (record {
-      after = K;
-      with = λ u. (0, u);
+      adds = [];
+      with = λ K u. (0, u);
       cost = free;
-      reads = λ n ts. ap (λ b. pick b (map (λ v. (0, v)) (run ts n K)) (refused not-accepted)) q;
-      there = λ ts u f. record { behind = ts; first = bare-zero z; second = f };
-      back = λ ts v f. let h = zero-is (f .first) in record { value = v .1; holds = subst (Follows K (v .1)) (h .2) (f .second); gives = ap (λ n. (n, v .1)) (h .1) };
-      pays = λ n u f. record { left = n; spends = for-free; then = f .1 };
-      fits = λ n m u q f. (omega arith, free-fits (λ m. Fits m K u) q f);
+      move = bare-number z;
+      reads = λ K n ts. ap (λ b. pick b (map (λ v. (0, v)) (run ts n K)) (refused not-accepted)) q;
+      there = λ K ts u f. record { behind = ts; first = bare-zero z; second = f };
+      back = λ K ts v f. let h = zero-is (f .first) in record { value = v .1; holds = subst (Follows K (v .1)) (h .2) (f .second); gives = ap (λ n. (n, v .1)) (h .1) };
+      pays = λ K n u f. record { left = n; spends = for-free; then = f .1 };
+      fits = λ K n m u q f. (omega arith, free-fits (λ m. Fits m K u) q f);
     })
-number-word k w K false q =
+number-word k w false q =
     stuck
     (record {
-      refuses = λ n ts. ap (λ b. pick b (map (λ v. (0, v)) (run ts n K)) (refused not-accepted)) q;
-      nothing = λ ts v f. no-true (sym q ∙ same-word (zero-is (f .first) .0));
+      refuses = λ K n ts. ap (λ b. pick b (map (λ v. (0, v)) (run ts n K)) (refused not-accepted)) q;
+      nothing = λ K ts v f. no-true (sym q ∙ same-word (zero-is (f .first) .0));
     })
 
 -- The list of a number holds z, or s and a number.
@@ -410,10 +436,10 @@ record OfSucc (n : ℕ) (ts us : List Token) : Type 0 where
 
 of-zero : {n : ℕ} {w : List ℕ} {ts us : List Token} → w ≡ zero-word → Number n (opening ∷ word w ∷ ts) us → (0 ≡ n) × (ts ≡ Tokens.closing ∷ us)
 of-zero p (zero-list q) = (refl, refl)
-of-zero p (succ-list q d) = no-true (sym z-no-s ∙ same-word (sym q ∙ p))
+of-zero p (succ-list q d) = zero-no-succ p q
 
 of-succ : {n : ℕ} {w : List ℕ} {ts us : List Token} → w ≡ succ-word → Number n (opening ∷ word w ∷ ts) us → OfSucc n ts us
-of-succ p (zero-list q) = no-true (sym z-no-s ∙ same-word (sym p ∙ q))
+of-succ p (zero-list q) = zero-no-succ q p
 of-succ p (succ-list q d) = record { value = _; is = refl; text = d }
 
 of-neither : {n : ℕ} {w : List ℕ} {ts us : List Token} → sameBytes zero-word w ≡ false → sameBytes succ-word w ≡ false → Number n (opening ∷ word w ∷ ts) us → ⊥
@@ -436,92 +462,96 @@ list-reads : (w : List ℕ) {b c : Bool} (k n : ℕ) (K : List Item) (ts : List 
     → token (numberList k) (word w) n K (run ts) ≡ pick b (map (λ v. (0, v)) (run ts n (close ∷ K))) (pick c (succeeded k n K (run ts)) (refused not-accepted))
 list-reads w k n K ts p q = ap₂ (λ b c. pick b (map (λ v. (0, v)) (run ts n (close ∷ K))) (pick c (succeeded k n K (run ts)) (refused not-accepted))) p q
 
-number-list-word : (k : ℕ) (w : List ℕ) (K : List Item) (b c : Bool) → sameBytes zero-word w ≡ b → sameBytes succ-word w ≡ c → Advances (numberList k) (word w) K
-number-list-word k w K true c p q =
+number-list-word : (k : ℕ) (w : List ℕ) (b c : Bool) → sameBytes zero-word w ≡ b → sameBytes succ-word w ≡ c → Advances (numberList k) (word w)
+number-list-word k w true c p q =
     let z : w ≡ zero-word = sym (same-true zero-word w p) in
     goes
     (record {
-      after = close ∷ K;
-      with = λ u. (0, u);
+      adds = close ∷ [];
+      with = λ K u. (0, u);
       cost = free;
-      reads = λ n ts. list-reads w k n K ts p q;
-      there = λ ts u f. record { behind = f .behind; first = subst (λ us. Number 0 (opening ∷ word w ∷ us) (f .behind)) (sym (f .first)) (zero-list z); second = f .second };
-      back = λ ts v f. let h = of-zero z (f .first) in record { value = v .1; holds = record { behind = f .behind; first = h .1; second = f .second }; gives = ap (λ n. (n, v .1)) (h .0) };
-      pays = λ n u f. record { left = n; spends = for-free; then = f .1 };
-      fits = λ n m u q f. (omega arith, free-fits (λ m. Fits m K u) q f);
+      move = zero-number z;
+      reads = λ K n ts. list-reads w k n K ts p q;
+      there = λ K ts u f. record { behind = f .behind; first = subst (λ us. Number 0 (opening ∷ word w ∷ us) (f .behind)) (sym (f .first)) (zero-list z); second = f .second };
+      back = λ K ts v f. let h = of-zero z (f .first) in record { value = v .1; holds = record { behind = f .behind; first = h .1; second = f .second }; gives = ap (λ n. (n, v .1)) (h .0) };
+      pays = λ K n u f. record { left = n; spends = for-free; then = f .1 };
+      fits = λ K n m u q f. (omega arith, free-fits (λ m. Fits m K u) q f);
     })
-number-list-word k w K false true p q =
+number-list-word k w false true p q =
     let s : w ≡ succ-word = sym (same-true succ-word w q) in
     goes
     (record {
-      after = number (pred k) ∷ close ∷ K;
-      with = λ u. (suc (u .0), u .1);
+      adds = number (pred k) ∷ close ∷ [];
+      with = λ K u. (suc (u .0), u .1);
       cost = succ k;
-      reads = λ n ts. list-reads w k n K ts p q ∙ succ-reads k n K ts;
-      there = λ ts u f. record { behind = f .second .behind; first = succ-list s (subst (Number (u .0) ts) (f .second .first) (f .first)); second = f .second .second };
-      back = λ ts v f. let h = of-succ s (f .first) in record { value = (h .value, v .1); holds = record { behind = Tokens.closing ∷ f .behind; first = h .text; second = record { behind = f .behind; first = refl; second = f .second } }; gives = ap (λ n. (n, v .1)) (h .is) };
-      pays = λ n u f. paid-succ k (omega (arith, f .0)) (below-pred k (f .0), f .1);
-      fits = λ n m u q f. let h = succ-spends (λ m. (u .0 ≤ pred k) × Fits m K (u .1)) q f in (above-pred k (h .0) (h .1 .0), h .1 .1);
+      move = succ-number s;
+      reads = λ K n ts. list-reads w k n K ts p q ∙ succ-reads k n K ts;
+      there = λ K ts u f. record { behind = f .second .behind; first = succ-list s (subst (Number (u .0) ts) (f .second .first) (f .first)); second = f .second .second };
+      back = λ K ts v f. let h = of-succ s (f .first) in record { value = (h .value, v .1); holds = record { behind = Tokens.closing ∷ f .behind; first = h .text; second = record { behind = f .behind; first = refl; second = f .second } }; gives = ap (λ n. (n, v .1)) (h .is) };
+      pays = λ K n u f. paid-succ k (omega (arith, f .0)) (below-pred k (f .0), f .1);
+      fits = λ K n m u q f. let h = succ-spends (λ m. (u .0 ≤ pred k) × Fits m K (u .1)) q f in (above-pred k (h .0) (h .1 .0), h .1 .1);
     })
-number-list-word k w K false false p q = stuck (record { refuses = λ n ts. list-reads w k n K ts p q; nothing = λ ts v f. of-neither p q (f .first) })
+number-list-word k w false false p q = stuck (record { refuses = λ K n ts. list-reads w k n K ts p q; nothing = λ K ts v f. of-neither p q (f .first) })
 
-claim-word : (w : List ℕ) (K : List Item) (b : Bool) → sameBytes entails-word w ≡ b → Advances claim (word w) K
-claim-word w K true q =
+claim-word : (w : List ℕ) (b : Bool) → sameBytes entails-word w ≡ b → Advances claim (word w)
+claim-word w true q =
     let z : w ≡ entails-word = sym (same-true entails-word w q) in
     goes
     (record {
-      after = K;
-      with = λ u. u;
+      adds = [];
+      with = λ K u. u;
       cost = free;
-      reads = λ n ts. ap (λ b. pick b (run ts n K) (refused not-accepted)) q ∙ map-id (run ts n K);
-      there = λ ts u f. record { behind = ts; first = ap (λ x. word x ∷ ts) z; second = f };
-      back = λ ts v f. record { value = v; holds = subst (Follows K v) (sym (tail-eq-of-cons-eq (f .first))) (f .second); gives = refl };
-      pays = λ n u f. record { left = n; spends = for-free; then = f };
-      fits = λ n m u q f. free-fits (λ m. Fits m K u) q f;
+      move = begins z;
+      reads = λ K n ts. ap (λ b. pick b (run ts n K) (refused not-accepted)) q ∙ map-id (run ts n K);
+      there = λ K ts u f. record { behind = ts; first = ap (λ x. word x ∷ ts) z; second = f };
+      back = λ K ts v f. record { value = v; holds = subst (Follows K v) (sym (tail-eq-of-cons-eq (f .first))) (f .second); gives = refl };
+      pays = λ K n u f. record { left = n; spends = for-free; then = f };
+      fits = λ K n m u q f. free-fits (λ m. Fits m K u) q f;
     })
-claim-word w K false q =
+claim-word w false q =
     stuck
     (record {
-      refuses = λ n ts. ap (λ b. pick b (run ts n K) (refused not-accepted)) q;
-      nothing = λ ts v f. no-true (sym q ∙ same-word (word-one (head-eq-of-cons-eq (f .first))));
+      refuses = λ K n ts. ap (λ b. pick b (run ts n K) (refused not-accepted)) q;
+      nothing = λ K ts v f. no-true (sym q ∙ same-word (word-one (head-eq-of-cons-eq (f .first))));
     })
 
 -- A formula is a part whose nodes are counted anew.
-whole-advances : {s : Sort} {x : Token} {K : List Item} → Advances (part s) x K → Advances (formula s) x K
+whole-advances : {s : Sort} {x : Token} → Advances (part s) x → Advances (formula s) x
 whole-advances (goes a) =
     goes
     (record {
-      after = a .after;
+      adds = a .adds;
       with = a .with;
       cost = anew (a .cost);
-      reads = λ n ts. a .reads maxNodes ts;
+      move = whole (a .move);
+      reads = λ K n ts. a .reads K maxNodes ts;
       there = a .there;
       back = a .back;
-      pays = λ n u f. let p = a .pays maxNodes u f in record { left = p .left; spends = for-anew (p .spends); then = p .then };
-      fits = λ n m u q f. a .fits maxNodes m u (anew-spends q) f;
+      pays = λ K n u f. let p = a .pays K maxNodes u f in record { left = p .left; spends = for-anew (p .spends); then = p .then };
+      fits = λ K n m u q f. a .fits K maxNodes m u (anew-spends q) f;
     })
-whole-advances (stuck a) = stuck (record { refuses = λ n ts. a .refuses maxNodes ts; nothing = a .nothing })
+whole-advances (stuck a) = stuck (record { refuses = λ K n ts. a .refuses K maxNodes ts; nothing = a .nothing })
 
 -- Every item at every token.
-pub advances : (i : Item) (x : Token) (K : List Item) → Advances i x K
+pub advances : (i : Item) (x : Token) → Advances i x
 unfolding Starts Heads tokenNumber
-advances (formula s) x K = whole-advances (part-advances s x K)
-advances (part s) x K = part-advances s x K
-advances (partList s) opening K = stuck (record { refuses = λ n ts. refl; nothing = λ ts v f. formula-heads (f .first) })
-advances (partList s) Tokens.closing K = stuck (record { refuses = λ n ts. refl; nothing = λ ts v f. formula-heads (f .first) })
-advances (partList s) (word w) K = list-advances s w K (nodeNamed s w) refl
-advances (number k) opening K = goes (record { after = numberList k ∷ K; with = λ u. u; cost = free; reads = λ n ts. map-id (run ts n (numberList k ∷ K)); there = λ ts u f. record { behind = f .behind; first = f .first; second = f .second }; back = λ ts v f. record { value = v; holds = record { behind = f .behind; first = f .first; second = f .second }; gives = refl }; pays = λ n u f. record { left = n; spends = for-free; then = f }; fits = λ n m u q f. free-fits (λ m. Fits m (numberList k ∷ K) u) q f })
-advances (number k) Tokens.closing K = stuck (record { refuses = λ n ts. refl; nothing = λ ts v f. number-starts (f .first) })
-advances (number k) (word w) K = number-word k w K (sameBytes zero-word w) refl
-advances (numberList k) opening K = stuck (record { refuses = λ n ts. refl; nothing = λ ts v f. number-heads (f .first) })
-advances (numberList k) Tokens.closing K = stuck (record { refuses = λ n ts. refl; nothing = λ ts v f. number-heads (f .first) })
-advances (numberList k) (word w) K = number-list-word k w K (sameBytes zero-word w) (sameBytes succ-word w) refl refl
-advances close opening K = stuck (record { refuses = λ n ts. refl; nothing = λ ts v f. differ (λ e. omega (arith, e)) (f .first) })
-advances close Tokens.closing K = goes (record { after = K; with = λ u. u; cost = free; reads = λ n ts. map-id (run ts n K); there = λ ts u f. record { behind = ts; first = refl; second = f }; back = λ ts v f. record { value = v; holds = subst (Follows K v) (sym (tail-eq-of-cons-eq (f .first))) (f .second); gives = refl }; pays = λ n u f. record { left = n; spends = for-free; then = f }; fits = λ n m u q f. free-fits (λ m. Fits m K u) q f })
-advances close (word w) K = stuck (record { refuses = λ n ts. refl; nothing = λ ts v f. differ (λ e. omega (arith, e)) (f .first) })
-advances claim opening K = stuck (record { refuses = λ n ts. refl; nothing = λ ts v f. differ (λ e. omega (arith, e)) (f .first) })
-advances claim Tokens.closing K = stuck (record { refuses = λ n ts. refl; nothing = λ ts v f. differ (λ e. omega (arith, e)) (f .first) })
-advances claim (word w) K = claim-word w K (sameBytes entails-word w) refl
+advances (formula s) x = whole-advances (part-advances s x)
+advances (part s) x = part-advances s x
+advances (partList s) opening = stuck (record { refuses = λ K n ts. refl; nothing = λ K ts v f. formula-heads (f .first) })
+advances (partList s) Tokens.closing = stuck (record { refuses = λ K n ts. refl; nothing = λ K ts v f. formula-heads (f .first) })
+advances (partList s) (word w) = list-advances s w (nodeNamed s w) refl
+advances (number k) opening = goes (record { adds = numberList k ∷ []; with = λ K u. u; cost = free; move = opens-number; reads = λ K n ts. map-id (run ts n (numberList k ∷ K)); there = λ K ts u f. record { behind = f .behind; first = f .first; second = f .second }; back = λ K ts v f. record { value = v; holds = record { behind = f .behind; first = f .first; second = f .second }; gives = refl }; pays = λ K n u f. record { left = n; spends = for-free; then = f }; fits = λ K n m u q f. free-fits (λ m. Fits m (numberList k ∷ K) u) q f })
+advances (number k) Tokens.closing = stuck (record { refuses = λ K n ts. refl; nothing = λ K ts v f. number-starts (f .first) })
+advances (number k) (word w) = number-word k w (sameBytes zero-word w) refl
+advances (numberList k) opening = stuck (record { refuses = λ K n ts. refl; nothing = λ K ts v f. number-heads (f .first) })
+advances (numberList k) Tokens.closing = stuck (record { refuses = λ K n ts. refl; nothing = λ K ts v f. number-heads (f .first) })
+advances (numberList k) (word w) = number-list-word k w (sameBytes zero-word w) (sameBytes succ-word w) refl refl
+advances close opening = stuck (record { refuses = λ K n ts. refl; nothing = λ K ts v f. differ (λ e. omega (arith, e)) (f .first) })
+advances close Tokens.closing = goes (record { adds = []; with = λ K u. u; cost = free; move = closes; reads = λ K n ts. map-id (run ts n K); there = λ K ts u f. record { behind = ts; first = refl; second = f }; back = λ K ts v f. record { value = v; holds = subst (Follows K v) (sym (tail-eq-of-cons-eq (f .first))) (f .second); gives = refl }; pays = λ K n u f. record { left = n; spends = for-free; then = f }; fits = λ K n m u q f. free-fits (λ m. Fits m K u) q f })
+advances close (word w) = stuck (record { refuses = λ K n ts. refl; nothing = λ K ts v f. differ (λ e. omega (arith, e)) (f .first) })
+advances claim opening = stuck (record { refuses = λ K n ts. refl; nothing = λ K ts v f. differ (λ e. omega (arith, e)) (f .first) })
+advances claim Tokens.closing = stuck (record { refuses = λ K n ts. refl; nothing = λ K ts v f. differ (λ e. omega (arith, e)) (f .first) })
+advances claim (word w) = claim-word w (sameBytes entails-word w) refl
 
 -- Nothing is expected to be nothing.
 pub nothing-follows : (i : Item) (K : List Item) (v : Values (i ∷ K)) → Follows (i ∷ K) v [] → ⊥
