@@ -1,18 +1,16 @@
 -- The reader accepts exactly the texts of the grammar whose formulas keep the limits, and gives the one formula of the text.
-use Prim.Native.Nat.{ℕ, zero, suc, _+_, _-_, _≤_}
+use Prim.Native.Nat.{ℕ, zero, suc, _-_, _≤_}
 use native.Mathlib.Omega.{arith}
 use mathlib.Core.Path.{_≡_, refl, sym, ap, _∙_, subst}
-use mathlib.Core.Logic.{_↔_}
 use mathlib.Core.List.{List, [], _∷_, _++_, cons≢nil}
 use Rattle.formula.specs.declared.Sort.{Sort}
 use Rattle.formula.specs.declared.Sort.the-variants.{Faces}
 use Rattle.formula.specs.Formula.{Face}
 use Rattle.formula.specs.Bytes.{Tree, nodes, bound, maxNodes, maxBound}
 use Rattle.text.specs.Tokens.{Token, word, tokens}
-use Rattle.text.specs.Words.{entails-word}
-use Rattle.text.specs.Grammar.{Number, Formula, Claim, entails}
-use Rattle.text.specs.Reading.{Item, formula, part, number, claim, Values, Outcome, refused, done, map, counted, run, readFormula, Claimed, readClaim}
-use Rattle.grammar.proofs.Advancing.{Then, Follows, Left, Fits, Cost, free, node, succ, anew, spend, Spends, for-free, for-node, for-succ, for-anew, Paid, spend-paid, Back, Advance, Stuck, Advances, goes, stuck, advances, nothing-follows}
+use Rattle.text.specs.Grammar.{Formula, Claim, entails}
+use Rattle.text.specs.Reading.{Item, formula, number, claim, Values, Outcome, refused, done, map, run, readFormula, Claimed, readClaim}
+use Rattle.grammar.proofs.Advancing.{Follows, Left, Fits, Cost, free, node, succ, anew, spend, for-free, for-node, for-succ, for-anew, Paid, spend-paid, Back, Advances, goes, stuck, advances, nothing-follows}
 
 -- What is done was done below a function.
 done-one : {A : Type 0} {x y : A} → done x ≡ done y → x ≡ y
@@ -117,13 +115,13 @@ pub formula-unique : (s : Sort) (ts : List Token) (t u : Tree s) → Formula s t
 formula-unique s ts t u f g = ap (λ (v : Tree s × Unit {0}). v .0) (unique ts (formula s ∷ []) (t, tt) (u, tt) (whole f) (whole g))
 
 -- What a claim's text expects.
-abbrev claimed : List Item
+abbrev pub claimed : List Item
 claimed = claim ∷ number maxBound ∷ formula Faces ∷ formula Faces ∷ []
 
-claim-follows : {d : ℕ} {a b : Face} {ts : List Token} → Claim d a b ts [] → Follows claimed (d, (a, (b, tt))) ts
+pub claim-follows : {d : ℕ} {a b : Face} {ts : List Token} → Claim d a b ts [] → Follows claimed (d, (a, (b, tt))) ts
 claim-follows (entails {ts = ts} {us} {vs} p m f g) = record { behind = ts; first = ap (λ x. word x ∷ ts) p; second = record { behind = us; first = m; second = record { behind = vs; first = f; second = record { behind = []; first = g; second = refl } } } }
 
-follows-claim : (v : Values claimed) {ts : List Token} → Follows claimed v ts → Claim (v .0) (v .1 .0) (v .1 .1 .0) ts []
+pub follows-claim : (v : Values claimed) {ts : List Token} → Follows claimed v ts → Claim (v .0) (v .1 .0) (v .1 .1 .0) ts []
 follows-claim v f =
     let g = f .second in
     let h = g .second in

@@ -1,5 +1,5 @@
 -- One token of the reader: either no text of the grammar goes on with it, or what is expected changes, and how.
-use Prim.Native.Nat.{ℕ, zero, suc, pred, _+_, _≤_, max}
+use Prim.Native.Nat.{ℕ, zero, suc, pred, _+_, _≤_}
 use native.Mathlib.Omega.{arith}
 use mathlib.Core.Path.{_≡_, refl, sym, ap, ap₂, _∙_, subst}
 use mathlib.Core.Bool.{Bool, true, false}
@@ -15,7 +15,7 @@ use Rattle.text.specs.Tokens
 use Rattle.text.specs.Tokens.{Token, opening, word}
 use Rattle.text.specs.Words.{kindNamed, nodeNamed, zero-word, succ-word, entails-word}
 use Rattle.text.specs.Grammar.{Number, bare-zero, zero-list, succ-list, Formula, bare-leaf, leaf-list, lit-list, one-list, two-list}
-use Rattle.text.specs.Reading.{Item, formula, part, partList, number, numberList, close, claim, Values, Outcome, refused, done, map, counted, bareNode, maxDim, listNode, succeeded, formulaToken, token, run}
+use Rattle.text.specs.Reading.{Item, formula, part, partList, number, numberList, close, claim, Values, Outcome, refused, done, map, counted, bareNode, maxDim, listNode, succeeded, token, run}
 
 -- What is expected, by the grammar and by the limits ---------------------------------------------------
 

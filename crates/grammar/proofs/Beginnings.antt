@@ -1,9 +1,9 @@
 -- Beginnings of lists of tokens, and what is met first in them.
-use Prim.Native.Nat.{ℕ, zero, suc}
+use Prim.Native.Nat.{ℕ}
 use native.Mathlib.Omega.{arith}
 use mathlib.Core.Path.{_≡_, refl, sym, ap, _∙_, subst}
-use mathlib.Core.List.{List, [], _∷_, _++_, cons≢nil, head-eq-of-cons-eq, tail-eq-of-cons-eq, append-nil, append-assoc, append-eq-nil-iff}
-use Rattle.calculus.specs.Refusal.{Refusal, too-many-nodes, large-dimension, not-accepted}
+use mathlib.Core.List.{List, [], _∷_, _++_, head-eq-of-cons-eq, tail-eq-of-cons-eq, append-nil, append-assoc, append-eq-nil-iff}
+use Rattle.calculus.specs.Refusal.{Refusal}
 use Rattle.text.specs.Tokens.{Token}
 use Rattle.text.specs.Reading.{Outcome, refused, done, map}
 use Rattle.grammar.specs.Meeting.{Begins, Fine, Wrong, no-text, many, large, Kept, Met, at-token, at-end}

@@ -1,11 +1,11 @@
 -- What is met first in one thing followed by another: in the first, or behind a text of it.
 use mathlib.Core.Path.{_≡_, refl, sym, ap, _∙_, subst}
-use mathlib.Core.List.{List, [], _∷_, _++_, head-eq-of-cons-eq, tail-eq-of-cons-eq, append-nil, append-assoc, append-cancel-left}
+use mathlib.Core.List.{List, [], _∷_, _++_, head-eq-of-cons-eq, append-nil, append-assoc}
 use Rattle.calculus.specs.Refusal.{Refusal, too-many-nodes, large-dimension, not-accepted}
 use Rattle.text.specs.Tokens.{Token}
 use Rattle.text.specs.Reading.{Outcome}
 use Rattle.grammar.specs.Meeting.{Begins, Fine, Wrong, no-text, many, large, Kept, Met, at-token, at-end}
-use Rattle.grammar.proofs.Beginnings.{Splits, longer, shorter, splits, front-empty, one-more, Verdict, refuses, accepts, begins-same}
+use Rattle.grammar.proofs.Beginnings.{Splits, longer, shorter, splits, front-empty, one-more, Verdict, refuses, accepts, Same, begins-same}
 
 -- A text of the first, and such tokens behind it.
 pub record Past (L T : List Token → Type 0) (P : List Token) : Type 0 where
@@ -20,9 +20,13 @@ pub data Limit (L M N : List Token → Type 0) (P : List Token) : Type 0 where
   within : Begins L P → M P → Limit L M N P
   beyond : Past L N P → Limit L M N P
 
-pub limit-same : {L M N L′ M′ N′ : List Token → Type 0} → ((P : List Token) → L P → L′ P) → ((P : List Token) → M P → M′ P) → ((P : List Token) → N P → N′ P) → (P : List Token) → Limit L M N P → Limit L′ M′ N′ P
-limit-same l m n P (within b x) = within (begins-same l b) (m P x)
-limit-same l m n P (beyond p) = beyond (record { front = p .front; rest = p .rest; is = p .is; before = l (p .front) (p .before); such = n (p .rest) (p .such) })
+limit-same : {L M N K : List Token → Type 0} → ((P : List Token) → L P → K P) → {P : List Token} → Limit L M N P → Limit K M N P
+limit-same h (within b x) = within (begins-same h b) x
+limit-same h (beyond p) = beyond (record { front = p .front; rest = p .rest; is = p .is; before = h (p .front) (p .before); such = p .such })
+
+-- The texts of the first, and the whole ones, in other words.
+pub front-same : {L K M N B D U W : List Token → Type 0} → ((P : List Token) → L P → K P) → ((P : List Token) → K P → L P) → ((P : List Token) → U P → W P) → ((P : List Token) → W P → U P) → Same U (Limit L M N) (Limit L B D) W (Limit K M N) (Limit K B D)
+front-same f g u w = record { there = u; back = w; many-there = λ P b. limit-same f; many-back = λ P b. limit-same g; large-there = λ P b. limit-same f; large-back = λ P b. limit-same g }
 
 -- No text goes on as a longer text.
 abbrev pub Ending : (List Token → Type 0) → Type 0

@@ -5,7 +5,7 @@ use mathlib.Core.Path.{_≡_, refl, sym, ap, _∙_, subst, subst₂}
 use mathlib.Core.List.{List, [], _∷_, _++_, cons≢nil, head-eq-of-cons-eq, tail-eq-of-cons-eq, append-nil, append-assoc, append-cancel-right, append-eq-nil-iff}
 use Rattle.formula.specs.declared.Sort.{Sort}
 use Rattle.formula.specs.declared.Sort.the-variants.{Faces, Intervals}
-use Rattle.formula.specs.Bytes.{Tree, Node, leaf, lit, one, two, bad, nodeOf, maxNodes}
+use Rattle.formula.specs.Bytes.{Tree, Node, leaf, lit, one, two, nodeOf, maxNodes}
 use Rattle.formula.specs.Answers.{sameBytes}
 use Rattle.calculus.specs.Table.{textBytes}
 use Rattle.text.specs.Tokens
@@ -13,8 +13,8 @@ use Rattle.text.specs.Tokens.{Token, opening, word}
 use Rattle.text.specs.Words.{kindNamed, nodeNamed, zero-word, succ-word}
 use Rattle.text.specs.Reading.{Item, part, partList, number, numberList, close, claim, maxDim, run}
 use Rattle.grammar.specs.Meeting.{isHead, heads, pairs, EndsIn, ManyNodes, LargeDimension}
-use Rattle.grammar.proofs.Advancing.{Cost, node, succ, Spends, for-free, for-node, for-succ, free, Move, opens-part, bare-part, leaf-part, lit-part, one-part, two-parts, opens-number, bare-number, zero-number, succ-number, closes, begins, zero-no-succ, word-one}
-use Rattle.grammar.proofs.Walking.{Lacks, lacks-node, lacks-succ, Paying, paid, no-node, no-succ, Counts, Judged, Answer, walked}
+use Rattle.grammar.proofs.Advancing.{Cost, node, succ, for-free, for-node, for-succ, free, Move, opens-part, bare-part, leaf-part, lit-part, one-part, two-parts, opens-number, bare-number, zero-number, succ-number, closes, begins, zero-no-succ, word-one}
+use Rattle.grammar.proofs.Walking.{lacks-node, lacks-succ, Paying, paid, no-node, no-succ, Counts, Judged, Answer, walked}
 
 -- Heads ------------------------------------------------------------------------------------------------
 
@@ -103,8 +103,8 @@ opening-no-succ p = let z : _≡_ {A = ℕ} 0 1 = cc in omega arith
 closing-no-succ : Tokens.closing ≡ word succ-word → ⊥
 closing-no-succ p = let z : _≡_ {A = ℕ} 0 1 = cc in omega arith
 
-pub head-no-succ : (s : Sort) {x : Token} → 1 ≤ heads s (x ∷ []) → x ≡ word succ-word → ⊥
-head-no-succ s h p = let q = ap (λ x. heads s (x ∷ [])) p in omega (arith, q, succ-weighs s refl .is)
+pub succ-no-head : (s : Sort) {x : Token} → x ≡ word succ-word → heads s (x ∷ []) ≡ 0
+succ-no-head s p = ap (λ x. heads s (x ∷ [])) p ∙ succ-weighs s refl .is
 
 pair-ends : {j : ℕ} {P : List Token} → EndsIn j P → EndsIn (suc j) ((P ++ opening ∷ []) ++ word succ-word ∷ [])
 pair-ends {j} {P} h = record { front = h .front; is = append-assoc P (opening ∷ []) (word succ-word ∷ []) ∙ ap (λ l. l ++ opening ∷ word succ-word ∷ []) (h .is) ∙ append-assoc (h .front) (pairs j) (opening ∷ word succ-word ∷ []) ∙ ap (λ l. h .front ++ l) (sym (pairs-last j)) }
@@ -151,7 +151,7 @@ module _ {s : Sort} {m N : ℕ} {Parts : Type 0} {M : List Token → Type 0} (di
   node-paid P (suc n) e q w p = paid for-node (record { place = p; count = omega (arith, weighs-more P w, e) })
 
   head-paid : {I : List Item} (P : List Token) {w : List ℕ} {n : ℕ} → heads s P + n ≡ N → Parts → Weighs s 1 (word w) → (Trail 0 (P ++ word w ∷ []) → Place s m Parts I (P ++ word w ∷ [])) → Paying (Stands s m N Parts) M (EndsIn (suc m)) I (P ++ word w ∷ []) node n
-  head-paid P {w} {n} e q h p = node-paid P n e q h (p (trail-end P (head-no-succ s (omega (arith, h .is)))))
+  head-paid P {w} {n} e q h p = node-paid P n e q h (p (trail-end P (λ p. omega (arith, h .is, succ-no-head s p))))
 
   zero-paid : {I : List Item} (P : List Token) {w : List ℕ} {n : ℕ} → heads s P + n ≡ N → w ≡ zero-word → Inner s Parts I → Paying (Stands s m N Parts) M (EndsIn (suc m)) I (P ++ word w ∷ []) free n
   zero-paid P e z g = free-paid P e (zero-weighs s z) (plain g (trail-end P (λ p. zero-no-succ z (word-one p))))

@@ -1,5 +1,5 @@
 -- The reader goes over the tokens of one item, and then over what is expected behind it.
-use Prim.Native.Nat.{ℕ, zero, suc}
+use Prim.Native.Nat.{ℕ}
 use mathlib.Core.Path.{_≡_, refl, sym, ap, _∙_, subst}
 use mathlib.Core.List.{List, [], _∷_, _++_, cons≢nil, append-nil}
 use Rattle.formula.specs.declared.Sort.{Sort}
@@ -8,15 +8,15 @@ use Rattle.formula.specs.Formula.{ff, i0}
 use Rattle.formula.specs.Bytes.{Tree, leaf, nodeOf}
 use Rattle.formula.specs.Answers.{sameBytes}
 use Rattle.calculus.specs.Table.{textBytes}
-use Rattle.calculus.specs.Refusal.{Refusal, too-many-nodes, large-dimension, not-accepted}
+use Rattle.calculus.specs.Refusal.{Refusal, too-many-nodes, large-dimension}
 use Rattle.text.specs.Tokens
 use Rattle.text.specs.Tokens.{Token, word}
 use Rattle.text.specs.Words.{kindNamed, nodeNamed, zero-word, entails-word}
 use Rattle.text.specs.Grammar.{bare-zero, zero-list, bare-leaf, leaf-list}
-use Rattle.text.specs.Reading.{Item, formula, part, partList, number, numberList, close, claim, Values, Outcome, refused, done, map, run}
-use Rattle.grammar.specs.Meeting.{Begins, Fine, Kept, Met}
+use Rattle.text.specs.Reading.{Item, formula, part, partList, number, numberList, close, claim, Values, Outcome, refused, map, run}
+use Rattle.grammar.specs.Meeting.{Begins, Fine, Kept}
 use Rattle.grammar.proofs.Advancing.{Follows, Cost, node, succ, spend, Spends, spend-paid, Move, Advance, Stuck, Advances, goes, stuck, advances, nothing-follows}
-use Rattle.grammar.proofs.Beginnings.{one-more, kept-none, kept-more, Verdict, refuses, accepts, verdict-map, verdict-none}
+use Rattle.grammar.proofs.Beginnings.{one-more, kept-none, kept-more, Verdict, refuses, verdict-map, verdict-none}
 use Rattle.grammar.proofs.Composing.{Past, Limit, Ending, Joins, verdict-behind, stray-front, early-front, many-front, large-front}
 
 -- The texts of what is expected.
