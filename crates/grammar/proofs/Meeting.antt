@@ -5,12 +5,13 @@ use mathlib.Core.Path.{_≡_, refl, sym, ap, _∙_, subst}
 use mathlib.Core.List.{List, [], _∷_, _++_, cons≢nil, append-assoc}
 use Rattle.formula.specs.declared.Sort.{Sort}
 use Rattle.formula.specs.declared.Sort.the-variants.{Faces}
-use Rattle.formula.specs.Bytes.{maxNodes, maxBound}
+use Rattle.formula.specs.Bytes.{maxBound}
 use Rattle.calculus.specs.Refusal.{Refusal}
 use Rattle.text.specs.Tokens.{Token, word, tokens}
 use Rattle.text.specs.Words.{succ-word, entails-word}
 use Rattle.text.specs.Grammar.{Number, Formula}
 use Rattle.text.specs.Reading.{Item, formula, part, number, claim, maxDim, refused, run, readFormula, readClaim}
+use Rattle.text.proofs.WholeLaws.{formula-part}
 use Rattle.grammar.specs.Meeting.{Begins, Fine, no-text, at-token, heads, pairs, EndsIn, FormulaText, ManyNodes, LargeDimension, FormulaMet, NumberText, ClaimText, Front, of-first, of-second, InFace, LargeNumber, of-d, of-face, ClaimMet}
 use Rattle.grammar.proofs.Accepting.{claimed, claim-follows, follows-claim}
 use Rattle.grammar.proofs.Beginnings.{Splits, longer, shorter, splits, kept-none, Apart, Verdict, refuses, accepts, verdict-map, verdict-met, met-verdict, Same, begins-same, verdict-same}
@@ -38,17 +39,11 @@ formula-there s P t = (t .value .0, subst (Formula s (t .value .0) P) (t .follow
 formula-back : (s : Sort) (P : List Token) → FormulaText s P → Texts (part s ∷ []) P
 formula-back s P h = record { value = (h .0, tt); follows = record { behind = []; first = h .1; second = refl } }
 
--- A formula in front is a part that may have all the nodes.
-formula-part : (s : Sort) (K : List Item) (n : ℕ) (ts : List Token) → run ts maxNodes (part s ∷ K) ≡ run ts n (formula s ∷ K)
-unfolding run
-formula-part s K n [] = refl
-formula-part s K n (x ∷ ts) = refl
-
 judged-formula : (s : Sort) (K : List Item) {N D : List Token → Type 0} → Judged K N D → Judged (formula s ∷ K) (Limit (FormulaText s) (ManyNodes s) N) (Limit (FormulaText s) LargeDimension D)
 judged-formula s K {N} {D} h n ts =
     subst
     (Verdict (Texts (formula s ∷ K)) (Limit (FormulaText s) (ManyNodes s) N) (Limit (FormulaText s) LargeDimension D) ts)
-    (formula-part s K n ts)
+    (sym (formula-part ts n s K))
     (verdict-same (front-same (formula-there s) (formula-back s) (λ P t. record { value = t .value; follows = t .follows }) (λ P t. record { value = t .value; follows = t .follows })) (formula-walked s K h ts))
 
 -- Behind it nothing is expected.

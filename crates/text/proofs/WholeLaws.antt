@@ -57,7 +57,7 @@ module _ {l : List ℕ} {c : Cursor} where
   at-end h = record { it = (λ n. ap (λ (ts : List Token). run ts n []) (h .it), refl) }
 
 -- A formula's nodes are counted anew.
-formula-part : (ts : List Token) (n : ℕ) (s : Sort) (K : List Item) → run ts n (formula s ∷ K) ≡ run ts maxNodes (part s ∷ K)
+pub formula-part : (ts : List Token) (n : ℕ) (s : Sort) (K : List Item) → run ts n (formula s ∷ K) ≡ run ts maxNodes (part s ∷ K)
 unfolding run
 formula-part [] n s K = refl
 formula-part (t ∷ ts) n s K = refl
