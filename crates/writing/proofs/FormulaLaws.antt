@@ -74,7 +74,7 @@ within : (l : List ℕ) (n : ℕ) → 0 < length l → n ≤ length (drop 1 l) �
 within l n h k = omega (arith, k, length-drop 1 l)
 
 -- The part of a slice from a place on.
-part-rest : (n : ℕ) (l : List ℕ) → take (length l - n) (drop n l) ≡ drop n l
+pub part-rest : (n : ℕ) (l : List ℕ) → take (length l - n) (drop n l) ≡ drop n l
 part-rest n l = take-all (length l - n) (drop n l) (omega (arith, length-drop n l))
 
 pub part-short : (n : ℕ) (l : List ℕ) → length (take (length l - n) (drop n l)) ≡ length l - n
