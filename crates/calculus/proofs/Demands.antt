@@ -103,7 +103,7 @@ entails-right-bytes d a b l h u = go (readLedger l) refl
 -- Theorem 7 -----------------------------------------------------------------------------------
 
 -- An empty ledger holds no steps.
-empty-holds : (n : ℕ) → 4 ≤ n → n ≤ maxLedger → Holds (empty n) []
+pub empty-holds : (n : ℕ) → 4 ≤ n → n ≤ maxLedger → Holds (empty n) []
 unfolding ledgerBytes stepsBytes
 empty-holds n p q =
     let m : length (empty n) ≡ n = length-replicate n 0 in

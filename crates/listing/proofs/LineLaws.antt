@@ -195,7 +195,7 @@ digits-short (suc k) n = by (ltb n 10) (digits-short k (n / 10))
     by true h = omega arith
     by false h = omega (arith, length-append (digitsIn k (n / 10)) ((48 + n % 10) ∷ []))
 
-decimal-short : (n : ℕ) → length (decimalText n) ≤ n + 1
+pub decimal-short : (n : ℕ) → length (decimalText n) ≤ n + 1
 unfolding decimalText
 decimal-short n = omega (arith, digits-short (suc n) n)
 
@@ -230,9 +230,9 @@ judgement-short j a =
     let v = itemsText (valueTexts (fields (predicate j)) (operands j)) in
     omega (arith, length-append n v, predicate-short (predicate j), values-short (fields (predicate j)) (operands j) a, ap length (four-fields (predicate j)), length-drop 4 (fields (predicate j)))
 
-head-short : (i : ℕ) (s : Step) → i ≤ maxLedger → AllBelow i (s .references) → length (s .references) ≤ 3 → length (headText i s) ≤ 4194400
+head-short : (i : ℕ) (s : Step) → AllBelow i (s .references) → length (s .references) ≤ 3 → length (headText i s) ≤ 4 * i + 25
 unfolding headText
-head-short i s h b k =
+head-short i s b k =
     let r = referencesText (s .references) in
     let m : (i + 1) * length (s .references) ≤ (i + 1) * 3 = mul-le-mul-left (i + 1) k in
     omega (
@@ -246,23 +246,23 @@ head-short i s h b k =
     )
 
 -- The line of a step of a ledger.
-pub line-short : {l : List ℕ} {step at : ℕ} → Points l step at → length (lineText step (stepOf l step)) ≤ 6400000
+pub line-short : {l : List ℕ} {step at : ℕ} → Points l step at → length (lineText step (stepOf l step)) ≤ 4 * length l + 2160200
 unfolding lineText
 line-short {l} {step} h =
     let s = stepOf l step in
     let f = formed h in
     let k = few-references (s .kind) (length (s .references)) (numberOf (predicate (s .judgement))) (sym (points-entry h)) in
-    let b : step ≤ maxLedger = omega (arith, many (stepsOf l) step (h .inside), place-next (stepsOf l) step (h .inside), place-end (stepsOf l) step (h .inside), h .led .fits, h .led .small) in
+    let b : step ≤ length l = omega (arith, many (stepsOf l) step (h .inside), place-next (stepsOf l) step (h .inside), place-end (stepsOf l) step (h .inside), h .led .fits) in
     omega (
       arith,
-      head-short step s b (f .earlier) k,
+      head-short step s (f .earlier) k,
       judgement-short (s .judgement) (f .limits),
       length-append (headText step s) (judgementText (s .judgement) ++ (10 ∷ [])),
       length-append (judgementText (s .judgement)) (10 ∷ []),
     )
 
 pub line-room : {l : List ℕ} {step at : ℕ} → Points l step at → Room 0 (lineText step (stepOf l step))
-line-room h = record { fits = omega (arith, line-short h) }
+line-room h = record { fits = omega (arith, line-short h, h .led .small) }
 
 pub line-is : (i : ℕ) (s : Step) → headText i s ++ (judgementText (s .judgement) ++ (10 ∷ [])) ≡ lineText i s
 unfolding lineText

@@ -1,0 +1,2 @@
+pub mod Facesteps
+pub mod Printing
