@@ -5,3 +5,5 @@ pub mod Composing
 pub mod Walking
 pub mod Counting
 pub mod Meeting
+pub mod Lexing
+pub mod ReadingBack
