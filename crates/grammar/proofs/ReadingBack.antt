@@ -1,7 +1,7 @@
 -- What the writer prints is read back.
 use Prim.Native.Nat.{ℕ, zero, suc, _+_, _-_, _≤_}
 use native.Mathlib.Omega.{arith}
-use mathlib.Core.Path.{_≡_, refl, sym, ap, ap₂, _∙_, subst}
+use mathlib.Core.Path.{_≡_, refl, ap, ap₂, _∙_, subst, subst⁻¹}
 use mathlib.Core.Bool.{true, false}
 use mathlib.Core.List.{List, [], _∷_, _++_, append-assoc, append-nil}
 use lib.ListN.{length}
@@ -25,7 +25,7 @@ use Rattle.grammar.proofs.Accepting.{Within, reads-formula, ClaimWithin
 
 -- What is printed is a text of the grammar -------------------------------------------------------------
 
--- The names of a sort's nodes are words, and each names its node.
+-- The names of a sort's nodes are words, and each names its node: a computed test.
 names-placed : (s : Sort) → inPlace (names s) 0 (names s) ≡ true
 unfolding textBytes sameBytes
 names-placed Faces = refl
@@ -42,7 +42,7 @@ name-known s b h =
     let e : kindNamed s (nodeName s b) ≡ b = omega (arith, h .from, p .1) in
     (p .0, ap (nodeOf s) e)
 
--- So are the words of numbers.
+-- The words of numbers are words.
 z-word : isWord zero-word ≡ true
 unfolding textBytes
 z-word = refl
@@ -51,47 +51,54 @@ s-word : isWord succ-word ≡ true
 unfolding textBytes
 s-word = refl
 
--- The same, where the tokens are said in other words.
-number-as : {n : ℕ} {ts us xs ys : List Token} → xs ≡ ts → ys ≡ us → Number n ts us → Number n xs ys
-number-as e f h = rw (e, f) h
+-- What is printed as x is such, with what starts a new token behind it.
+abbrev Printed : (List Token → List Token → Type 0) → List ℕ → Type 0
+Printed P x = (rest : List ℕ) → beginsWord rest ≡ false → P (tokens (x ++ rest)) (tokens rest)
 
-formula-as : {s : Sort} {t : Tree s} {ts us xs ys : List Token} → xs ≡ ts → ys ≡ us → Formula s t ts us → Formula s t xs ys
-formula-as e f h = rw (e, f) h
+-- An item of a list, and the last one.
+item-printed : (P : List Token → List Token → Type 0) (x : List ℕ) (xs : List (List ℕ)) (rest : List ℕ) → Printed P x → P (tokens (itemsText (x ∷ xs) ++ rest)) (tokens (itemsText xs ++ rest))
+item-printed P x xs rest h = subst⁻¹ (λ (ts : List Token). P ts (tokens (itemsText xs ++ rest))) (item-tokens x xs rest) (h (itemsText xs ++ rest) (items-apart xs rest))
+
+last-printed : (P : List Token → List Token → Type 0) (x rest : List ℕ) → Printed P x → P (tokens (itemsText (x ∷ []) ++ rest)) (closing ∷ tokens rest)
+last-printed P x rest h = subst (P (tokens (itemsText (x ∷ []) ++ rest))) (end-tokens rest) (item-printed P x [] rest h)
 
 -- The text of a number is one of the grammar, with what starts a new token behind it.
 pub number-written : (n : ℕ) (rest : List ℕ) → beginsWord rest ≡ false → Number n (tokens (unaryText n ++ rest)) (tokens rest)
 unfolding unaryText
-number-written zero rest h = number-as (word-tokens zero-word rest z-word h) refl (bare-zero refl)
+number-written zero rest h = subst⁻¹ (λ (ts : List Token). Number 0 ts (tokens rest)) (word-tokens zero-word rest z-word h) (bare-zero refl)
 number-written (suc n) rest h =
-    number-as (list-tokens succ-word (unaryText n ∷ []) rest s-word ∙ ap (λ (ts : List Token). opening ∷ word succ-word ∷ ts) (item-tokens (unaryText n) [] rest)) refl
-    (succ-list refl (number-as refl (sym (end-tokens rest)) (number-written n (itemsText [] ++ rest) (items-apart [] rest))))
+    subst⁻¹ (λ (ts : List Token). Number (suc n) ts (tokens rest)) (list-tokens succ-word (unaryText n ∷ []) rest s-word) (succ-list refl (last-printed (Number n) (unaryText n) rest (number-written n)))
+
+-- The tokens of a formula, where its text is known.
+formula-as : {s : Sort} {t : Tree s} {x y : List ℕ} {ts : List Token} (rest : List ℕ) → x ≡ y → tokens (y ++ rest) ≡ ts → Formula s t ts (tokens rest) → Formula s t (tokens (x ++ rest)) (tokens rest)
+formula-as {s} {t} rest e p f = subst⁻¹ (λ (ts : List Token). Formula s t ts (tokens rest)) (ap (λ (l : List ℕ). tokens (l ++ rest)) e ∙ p) f
 
 -- The text of a formula, of whatever size.
 pub formula-written : (s : Sort) (t : Tree s) (rest : List ℕ) → beginsWord rest ≡ false → Formula s t (tokens (formulaText s t ++ rest)) (tokens rest)
 formula-written s =
-    tree-ind s (λ t. (rest : List ℕ) → beginsWord rest ≡ false → Formula s t (tokens (formulaText s t ++ rest)) (tokens rest)) (record {
+    tree-ind s (λ t. Printed (Formula s t) (formulaText s t)) (record {
       at-leaf = λ b t e rest h.
           let p = spells-as s b (leaf t) e in
           let k = name-known s b (p .named) in
-          formula-as (ap (λ (l : List ℕ). tokens (l ++ rest)) (p .text) ∙ word-tokens (nodeName s b) rest (k .0) h) refl (bare-leaf (k .1 ∙ e));
+          formula-as rest (p .text) (word-tokens (nodeName s b) rest (k .0) h) (bare-leaf (k .1 ∙ e));
       at-lit = λ b n g e rest h.
           let p = spells-as s b (lit g) e in
           let k = name-known s b (p .named) in
-          formula-as (ap (λ (l : List ℕ). tokens (l ++ rest)) (p .text n) ∙ list-tokens (nodeName s b) (unaryText n ∷ []) rest (k .0)) refl
-          (lit-list (k .1 ∙ e) (number-as (item-tokens (unaryText n) [] rest) (sym (end-tokens rest)) (number-written n (itemsText [] ++ rest) (items-apart [] rest))));
+          formula-as rest (p .text n) (list-tokens (nodeName s b) (unaryText n ∷ []) rest (k .0))
+          (lit-list (k .1 ∙ e) (last-printed (Number n) (unaryText n) rest (number-written n)));
       at-one = λ b u x e i rest h.
           let p = spells-as s b (one u) e in
           let k = name-known s b (p .named) in
-          formula-as (ap (λ (l : List ℕ). tokens (l ++ rest)) (p .text x) ∙ list-tokens (nodeName s b) (formulaText s x ∷ []) rest (k .0)) refl
-          (one-list (k .1 ∙ e) (formula-as (item-tokens (formulaText s x) [] rest) (sym (end-tokens rest)) (i (itemsText [] ++ rest) (items-apart [] rest))));
+          formula-as rest (p .text x) (list-tokens (nodeName s b) (formulaText s x ∷ []) rest (k .0))
+          (one-list (k .1 ∙ e) (last-printed (Formula s x) (formulaText s x) rest i));
       at-two = λ b v x y e i j rest h.
           let p = spells-as s b (two v) e in
           let k = name-known s b (p .named) in
-          let ys = formulaText s y ∷ [] in
-          formula-as (ap (λ (l : List ℕ). tokens (l ++ rest)) (p .text x y) ∙ list-tokens (nodeName s b) (formulaText s x ∷ ys) rest (k .0)) refl
-          (two-list (k .1 ∙ e) (formula-as (item-tokens (formulaText s x) ys rest) refl (i (itemsText ys ++ rest) (items-apart ys rest))) (formula-as (item-tokens (formulaText s y) [] rest) (sym (end-tokens rest)) (j (itemsText [] ++ rest) (items-apart [] rest))));
+          formula-as rest (p .text x y) (list-tokens (nodeName s b) (formulaText s x ∷ formulaText s y ∷ []) rest (k .0))
+          (two-list (k .1 ∙ e) (item-printed (Formula s x) (formulaText s x) (formulaText s y ∷ []) rest i) (last-printed (Formula s y) (formulaText s y) rest j));
     })
 
+-- The word that a claim starts with is a word.
 entails-is-word : isWord entails-word ≡ true
 unfolding textBytes
 entails-is-word = refl
@@ -114,7 +121,7 @@ unfolding tokens
 claim-written d a b rest h =
     let B = 32 ∷ faceText b ++ rest in
     let A = 32 ∷ faceText a ++ B in
-    subst (λ (ts : List Token). Claim d a b ts (tokens rest)) (sym (claim-tokens d a b rest)) (entails refl (number-written d A refl) (formula-written Faces a B refl) (formula-written Faces b rest h))
+    subst⁻¹ (λ (ts : List Token). Claim d a b ts (tokens rest)) (claim-tokens d a b rest) (entails refl (number-written d A refl) (formula-written Faces a B refl) (formula-written Faces b rest h))
 
 -- It is read back --------------------------------------------------------------------------------------
 
@@ -132,6 +139,7 @@ claim-back c h =
 
 -- With anything behind it ------------------------------------------------------------------------------
 
+-- One function behind another.
 map-map : {A B C : Type 0} (f : B → C) (g : A → B) (o : Outcome A) → map f (map g o) ≡ map (λ x. f (g x)) o
 map-map f g (refused e) = refl
 map-map f g (done x) = refl
