@@ -183,10 +183,10 @@ nodeNumber (two g) = 3
 nodeNumber bad = 4
 
 -- A bare word is a constant.
-bare-is : {s : Sort} {t : Tree s} {w : List ℕ} {ts us : List Token} → Formula s t (word w ∷ ts) us → (nodeNamed s w ≡ leaf t) × (us ≡ ts)
+pub bare-is : {s : Sort} {t : Tree s} {w : List ℕ} {ts us : List Token} → Formula s t (word w ∷ ts) us → (nodeNamed s w ≡ leaf t) × (us ≡ ts)
 bare-is (bare-leaf p) = (p, refl)
 
-leaf-one : {A : Type 0} {x y : A} → leaf x ≡ leaf y → x ≡ y
+pub leaf-one : {A : Type 0} {x y : A} → leaf x ≡ leaf y → x ≡ y
 leaf-one e = cc
 
 lit-one : {A : Type 0} {f g : ℕ → A} → lit f ≡ lit g → f ≡ g
@@ -235,46 +235,46 @@ bare-advances s w (two g) p = stuck (bare-other p (λ e. omega (arith, e)) (λ K
 bare-advances s w bad p = stuck (bare-other p (λ e. omega (arith, e)) (λ K n ts. refl))
 
 -- What the list of a formula holds, where its first word is known.
-record OfLit (s : Sort) (g : ℕ → Tree s) (y : Tree s) (ts us : List Token) : Type 0 where
-  value : ℕ
-  is : g value ≡ y
-  text : Number value ts (Tokens.closing ∷ us)
+pub record OfLit (s : Sort) (g : ℕ → Tree s) (y : Tree s) (ts us : List Token) : Type 0 where
+  pub value : ℕ
+  pub is : g value ≡ y
+  pub text : Number value ts (Tokens.closing ∷ us)
 
-record OfOne (s : Sort) (g : Tree s → Tree s) (y : Tree s) (ts us : List Token) : Type 0 where
-  value : Tree s
-  is : g value ≡ y
-  text : Formula s value ts (Tokens.closing ∷ us)
+pub record OfOne (s : Sort) (g : Tree s → Tree s) (y : Tree s) (ts us : List Token) : Type 0 where
+  pub value : Tree s
+  pub is : g value ≡ y
+  pub text : Formula s value ts (Tokens.closing ∷ us)
 
-record OfTwo (s : Sort) (g : Tree s → Tree s → Tree s) (y : Tree s) (ts us : List Token) : Type 0 where
-  left : Tree s
-  right : Tree s
-  between : List Token
-  is : g left right ≡ y
-  first : Formula s left ts between
-  second : Formula s right between (Tokens.closing ∷ us)
+pub record OfTwo (s : Sort) (g : Tree s → Tree s → Tree s) (y : Tree s) (ts us : List Token) : Type 0 where
+  pub left : Tree s
+  pub right : Tree s
+  pub between : List Token
+  pub is : g left right ≡ y
+  pub first : Formula s left ts between
+  pub second : Formula s right between (Tokens.closing ∷ us)
 
-of-leaf : {s : Sort} {t : Tree s} {y : Tree s} {w : List ℕ} {ts us : List Token} → nodeNamed s w ≡ leaf t → Formula s y (opening ∷ word w ∷ ts) us → (t ≡ y) × (ts ≡ Tokens.closing ∷ us)
+pub of-leaf : {s : Sort} {t : Tree s} {y : Tree s} {w : List ℕ} {ts us : List Token} → nodeNamed s w ≡ leaf t → Formula s y (opening ∷ word w ∷ ts) us → (t ≡ y) × (ts ≡ Tokens.closing ∷ us)
 unfolding nodeNumber
 of-leaf p (leaf-list q) = (leaf-one (sym p ∙ q), refl)
 of-leaf p (lit-list q d) = absurd (let k = ap nodeNumber (sym p ∙ q) in omega (arith, k))
 of-leaf p (one-list q d) = absurd (let k = ap nodeNumber (sym p ∙ q) in omega (arith, k))
 of-leaf p (two-list q d e) = absurd (let k = ap nodeNumber (sym p ∙ q) in omega (arith, k))
 
-of-lit : {s : Sort} {g : ℕ → Tree s} {y : Tree s} {w : List ℕ} {ts us : List Token} → nodeNamed s w ≡ lit g → Formula s y (opening ∷ word w ∷ ts) us → OfLit s g y ts us
+pub of-lit : {s : Sort} {g : ℕ → Tree s} {y : Tree s} {w : List ℕ} {ts us : List Token} → nodeNamed s w ≡ lit g → Formula s y (opening ∷ word w ∷ ts) us → OfLit s g y ts us
 unfolding nodeNumber
 of-lit p (leaf-list q) = absurd (let k = ap nodeNumber (sym p ∙ q) in omega (arith, k))
 of-lit {s} p (lit-list {n = n} q d) = record { value = n; is = ap (λ (h : ℕ → Tree s). h n) (lit-one (sym p ∙ q)); text = d }
 of-lit p (one-list q d) = absurd (let k = ap nodeNumber (sym p ∙ q) in omega (arith, k))
 of-lit p (two-list q d e) = absurd (let k = ap nodeNumber (sym p ∙ q) in omega (arith, k))
 
-of-one : {s : Sort} {g : Tree s → Tree s} {y : Tree s} {w : List ℕ} {ts us : List Token} → nodeNamed s w ≡ one g → Formula s y (opening ∷ word w ∷ ts) us → OfOne s g y ts us
+pub of-one : {s : Sort} {g : Tree s → Tree s} {y : Tree s} {w : List ℕ} {ts us : List Token} → nodeNamed s w ≡ one g → Formula s y (opening ∷ word w ∷ ts) us → OfOne s g y ts us
 unfolding nodeNumber
 of-one p (leaf-list q) = absurd (let k = ap nodeNumber (sym p ∙ q) in omega (arith, k))
 of-one p (lit-list q d) = absurd (let k = ap nodeNumber (sym p ∙ q) in omega (arith, k))
 of-one {s} p (one-list {a = a} q d) = record { value = a; is = ap (λ (h : Tree s → Tree s). h a) (one-one (sym p ∙ q)); text = d }
 of-one p (two-list q d e) = absurd (let k = ap nodeNumber (sym p ∙ q) in omega (arith, k))
 
-of-two : {s : Sort} {g : Tree s → Tree s → Tree s} {y : Tree s} {w : List ℕ} {ts us : List Token} → nodeNamed s w ≡ two g → Formula s y (opening ∷ word w ∷ ts) us → OfTwo s g y ts us
+pub of-two : {s : Sort} {g : Tree s → Tree s → Tree s} {y : Tree s} {w : List ℕ} {ts us : List Token} → nodeNamed s w ≡ two g → Formula s y (opening ∷ word w ∷ ts) us → OfTwo s g y ts us
 unfolding nodeNumber
 of-two p (leaf-list q) = absurd (let k = ap nodeNumber (sym p ∙ q) in omega (arith, k))
 of-two p (lit-list q d) = absurd (let k = ap nodeNumber (sym p ∙ q) in omega (arith, k))
@@ -363,7 +363,7 @@ part-advances s Tokens.closing = stuck (record { refuses = λ K n ts. refl; noth
 part-advances s (word w) = bare-advances s w (nodeNamed s w) refl
 
 -- Numbers.
-zero-is : {n : ℕ} {w : List ℕ} {ts us : List Token} → Number n (word w ∷ ts) us → (w ≡ zero-word) × (0 ≡ n) × (us ≡ ts)
+pub zero-is : {n : ℕ} {w : List ℕ} {ts us : List Token} → Number n (word w ∷ ts) us → (w ≡ zero-word) × (0 ≡ n) × (us ≡ ts)
 zero-is (bare-zero p) = (p, refl, refl)
 
 -- A word that is known.
@@ -429,16 +429,16 @@ number-word k w false q =
     })
 
 -- The list of a number holds z, or s and a number.
-record OfSucc (n : ℕ) (ts us : List Token) : Type 0 where
-  value : ℕ
-  is : suc value ≡ n
-  text : Number value ts (Tokens.closing ∷ us)
+pub record OfSucc (n : ℕ) (ts us : List Token) : Type 0 where
+  pub value : ℕ
+  pub is : suc value ≡ n
+  pub text : Number value ts (Tokens.closing ∷ us)
 
-of-zero : {n : ℕ} {w : List ℕ} {ts us : List Token} → w ≡ zero-word → Number n (opening ∷ word w ∷ ts) us → (0 ≡ n) × (ts ≡ Tokens.closing ∷ us)
+pub of-zero : {n : ℕ} {w : List ℕ} {ts us : List Token} → w ≡ zero-word → Number n (opening ∷ word w ∷ ts) us → (0 ≡ n) × (ts ≡ Tokens.closing ∷ us)
 of-zero p (zero-list q) = (refl, refl)
 of-zero p (succ-list q d) = zero-no-succ p q
 
-of-succ : {n : ℕ} {w : List ℕ} {ts us : List Token} → w ≡ succ-word → Number n (opening ∷ word w ∷ ts) us → OfSucc n ts us
+pub of-succ : {n : ℕ} {w : List ℕ} {ts us : List Token} → w ≡ succ-word → Number n (opening ∷ word w ∷ ts) us → OfSucc n ts us
 of-succ p (zero-list q) = zero-no-succ q p
 of-succ p (succ-list q d) = record { value = _; is = refl; text = d }
 

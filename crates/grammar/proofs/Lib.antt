@@ -7,3 +7,6 @@ pub mod Counting
 pub mod Meeting
 pub mod Lexing
 pub mod ReadingBack
+pub mod Cutting
+pub mod Fronts
+pub mod Listing
