@@ -1,5 +1,5 @@
 #!/usr/bin/env bash
-# Times of reading faces of 511 nodes, ours beside a plain Rust reader of the same grammar.
+# Times of reading and writing faces of 511 nodes and of listings, ours beside plain Rust for the same.
 # usage: texts.sh [ROUNDS]
 set -euo pipefail
 here=$(cd "$(dirname "${BASH_SOURCE[0]}")" && pwd)

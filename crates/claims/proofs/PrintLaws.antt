@@ -20,10 +20,10 @@ use Rattle.calculus.specs.Table.{textBytes}
 use Rattle.calculus.specs.Door
 use Rattle.ledger.specs.Ledger.{stepsOf, placeOf, Led, Points}
 use Rattle.ledger.proofs.LedgerLaws.{many, place-next, place-end}
-use Rattle.ledger.proofs.PointLaws.{Walks, walks-points, walks-end, walks-next, walks-forward}
+use Rattle.ledger.proofs.PointLaws.{Walks, walks-start, walks-points, walks-end, walks-next, walks-forward}
 use Rattle.writing.specs.Texts.{decimalText}
 use Rattle.writing.specs.Writing.{Room, Wrote}
-use Rattle.writing.proofs.WriteLaws.{wrote-next, wrote-as, wrote-none, room-as}
+use Rattle.writing.proofs.WriteLaws.{wrote-next, wrote-as, wrote-none, wrote-length, room-as}
 use Rattle.listing.specs.Lines.{lineText}
 use Rattle.listing.specs.Writing.{stepOf, Shows}
 use Rattle.listing.proofs.LineLaws.{line-short, decimal-short}
@@ -213,3 +213,14 @@ pages-all l i k h =
     let L = stepsOf l in
     let e : i + (k - i) ≡ k = omega arith in
     lines-cut i (drop i L) (k - i) ∙ ap (λ (M : List Step). linesTo l i k ++ linesFrom (i + (k - i)) M) (drop-drop (k - i) i L) ∙ ap (λ (n : ℕ). linesTo l i k ++ linesFrom n (drop n L)) e
+
+-- The first page, and a place before a step.
+pub among-start : {l : List ℕ} → Led l → Among l 0 4
+among-start h = let w = walks-start h in record { led = w .led; inside = w .among; place = w .place }
+
+pub among-inside : {l : List ℕ} {step at end : ℕ} → Among l step at → end ≡ size (stepsOf l) → at < end → step < length (stepsOf l)
+among-inside a e b = walks-points (walks-among a) (omega (arith, e)) .inside
+
+-- The last line fits into the room for a page.
+pub verdict-fits : {input l out out′ : List ℕ} {a : Answer} {r : ℕ} → Asks input a l → Wrote (verdictText (said a)) out 0 r out′ → 1048600 ≤ length out → r ≤ length out′
+verdict-fits {a = a} h w b = omega (arith, verdict-short a (h .small), w .end, wrote-length w)

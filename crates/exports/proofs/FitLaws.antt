@@ -33,8 +33,8 @@ use Rattle.desk.proofs.Verdicts.{fails-lowest}
 use Rattle.replies.specs.declared.Made.{Made}
 use Rattle.replies.specs.Replying.{saidOne, saidBoth, Replies}
 use Rattle.text.specs.Reading
-use Rattle.text.specs.Reading.{readFormula, Claimed, readClaim}
-use Rattle.text.specs.Answers.{Delivered, delivered, saidLength, ReadsInto, Lengths, BothDelivered, bothDelivered, saidClaim, ReadsClaim}
+use Rattle.text.specs.Reading.{Claimed, readClaim}
+use Rattle.text.specs.Answers.{Delivered, saidLength, Lengths, BothDelivered, bothDelivered, saidClaim, ReadsClaim}
 use Rattle.text.specs.declared.Length.{Length}
 use Rattle.text.specs.declared.Claim.{Claim}
 use Rattle.grammar.proofs.Accepting.{ClaimWithin, claim-read}
@@ -113,10 +113,10 @@ as-desk (judged (fail n)) = refl
 pub desk-number : (l : List ℕ) {v : Verdict} {r : ℕ} → v ≡ answerAs (deskAnswer judge l) → r ≡ verdictNumber v → r ≡ deskNumber (deskAnswer judge l)
 desk-number l h e = e ∙ ap verdictNumber h ∙ as-desk (deskAnswer judge l)
 
--- Readers ------------------------------------------------------------------------------------------------
+-- Readers and writers ------------------------------------------------------------------------------------
 
-pub reads-number : {s : Sort} {l out out′ : List ℕ} {a : Length} {r : ℕ} → ReadsInto s l out a out′ → r ≡ lengthNumber (saidLength a) → Reads (delivered (Reading.map (encode s) (readFormula s l)) out) r out′
-reads-number h e = record { numbered = e ∙ ap (λ (x : Delivered). lengthNumber (x .answer)) (sym (h .equal)); output = ap (λ (x : Delivered). x .output) (sym (h .equal)) }
+pub delivered-number : {d : Delivered} {out′ : List ℕ} {r : ℕ} (a : Length) → d ≡ record { answer = saidLength a; output = out′ } → r ≡ lengthNumber (saidLength a) → Reads d r out′
+delivered-number a h e = record { numbered = e ∙ ap (λ (x : Delivered). lengthNumber (x .answer)) (sym h); output = ap (λ (x : Delivered). x .output) (sym h) }
 
 pub claim-number : {l a b a′ b′ : List ℕ} {c : Claim} {r : ℕ} → ReadsClaim l a b c a′ b′ → r ≡ claimNumber (saidClaim c) → ReadsBoth (bothDelivered (readClaim l) a b) r a′ b′
 claim-number h e = record { numbered = e ∙ ap (λ (x : BothDelivered). claimNumber (x .answer)) (sym (h .equal)); left = ap (λ (x : BothDelivered). x .left) (sym (h .equal)); right = ap (λ (x : BothDelivered). x .right) (sym (h .equal)) }

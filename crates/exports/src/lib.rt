@@ -7,9 +7,12 @@ ghost use Rattle.calculus.specs.Door.{reply, face as faceCall, interval as inte
 ghost use Rattle.calculus.specs.Desk.{deskAnswer};
 ghost use Rattle.calculus.proofs.Desk.{judge};
 ghost use Rattle.ledger.specs.Checks.{counted};
-ghost use Rattle.formula.specs.Bytes.{encode};
-ghost use Rattle.text.specs.Reading.{map, readFormula, readClaim};
+ghost use Rattle.formula.specs.Bytes.{encode, readAll};
+ghost use Rattle.text.specs.Reading.{done, map, readFormula, readClaim};
 ghost use Rattle.text.specs.Answers.{delivered, bothDelivered};
+ghost use Rattle.writing.specs.Answers.{written};
+ghost use Rattle.listing.specs.Answers.{lineOf};
+ghost use Rattle.claims.specs.Facesteps.{facesteps};
 ghost use Rattle.numbers.specs.Answers.{stepsNumber, deskNumber, Numbers, Reads, ReadsBoth, isOne};
 
 // How many steps the ledger has, or refusal 1.
@@ -143,4 +146,36 @@ pub extern "C" fn lf_read_claim(source: &[u8], a: &mut [u8], b: &mut [u8]) -> u6
     ensures { λ r. ⌜ ReadsBoth (bothDelivered (readClaim (now (source .entry))) (now (a .entry)) (now (b .entry))) r (now (a .exit)) (now (b .exit)) ⌝ }
 {
     numbers::claim(text::read_claim(source, a, b))
+}
+
+// The text of a face, in front of the output.
+#[no_mangle]
+pub extern "C" fn lf_write_face(f: &[u8], out: &mut [u8]) -> u64
+    ensures { λ r. ⌜ Reads (delivered (written Sort.Faces (readAll Sort.Faces (now (f .entry)))) (now (out .entry))) r (now (out .exit)) ⌝ }
+{
+    numbers::length(writing::write_formula(Sort::Faces, f, out))
+}
+
+// The text of an interval, in front of the output.
+#[no_mangle]
+pub extern "C" fn lf_write_interval(r: &[u8], out: &mut [u8]) -> u64
+    ensures { λ x. ⌜ Reads (delivered (written Sort.Intervals (readAll Sort.Intervals (now (r .entry)))) (now (out .entry))) x (now (out .exit)) ⌝ }
+{
+    numbers::length(writing::write_formula(Sort::Intervals, r, out))
+}
+
+// The line of a step of the ledger, in front of the output; nothing past the last step.
+#[no_mangle]
+pub extern "C" fn lf_write_step(ledger: &[u8], step: u64, out: &mut [u8]) -> u64
+    ensures { λ r. ⌜ Reads (delivered (lineOf (readLedger (now (ledger .entry))) step) (now (out .entry))) r (now (out .exit)) ⌝ }
+{
+    numbers::length(listing::write_step(ledger, step as usize, out))
+}
+
+// All that the program facesteps prints for an input, in front of the output.
+#[no_mangle]
+pub extern "C" fn lf_facesteps(input: &[u8], out: &mut [u8]) -> u64
+    ensures { λ r. ⌜ Reads (delivered (done (facesteps (now (input .entry)))) (now (out .entry))) r (now (out .exit)) ⌝ }
+{
+    numbers::length(claims::facesteps(input, out))
 }

@@ -18,7 +18,7 @@ use Rattle.formula.specs.Answers.{pick}
 use Rattle.calculus.specs.Judgement.{Judgement, Step}
 use Rattle.calculus.specs.Table.{Pred, unlisted, table, entryOf, predicate, textBytes, pLt, pLe, pInterval, pFace, pMember, pTake, pCover, pEntails, pBoundary, pLocal, pFforall, pIshift, pIsubst, pFshift, pFsubst}
 use Rattle.calculus.specs.Rules.{AllBelow, stepAt}
-use Rattle.calculus.specs.Record.{Field, number, index, context, end, formula, Value, nodesIn, boundIn, fewNodes, lowBound, belongs, allowed, fields, Values, operands, operandBytes, allAllowed, boundContext, FormedStep, maxLedger}
+use Rattle.calculus.specs.Record.{Field, number, index, context, end, formula, Value, nodesIn, boundIn, fewNodes, lowBound, belongs, allowed, fields, Values, operands, operandBytes, allAllowed, boundContext, FormedStep}
 use Rattle.calculus.specs.Search.{nodesContext}
 use Rattle.calculus.specs.Parse.{readValues, readLedger}
 use Rattle.calculus.proofs.Searching.{nodes-positive}

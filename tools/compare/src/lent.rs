@@ -34,4 +34,16 @@ impl Lent {
         let end = self.0.len() - GUARD;
         self.0[..GUARD].iter().chain(&self.0[end..]).all(|b| *b == GUARD_BYTE)
     }
+    /// Whether the slice has these bytes and its surroundings stayed.
+    pub fn same(&self, what: &str, want: &[u8]) -> Result<(), String> {
+        let have = self.content();
+        if have != want {
+            let i = have.iter().zip(want).take_while(|(x, y)| x == y).count();
+            return Err(format!("{what}: byte {i} of {} is {}, expected {}", want.len(), have[i], want[i]));
+        }
+        if !self.guarded() {
+            return Err(format!("{what}: a byte before or behind the slice was written"));
+        }
+        Ok(())
+    }
 }

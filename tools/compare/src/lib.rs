@@ -2,8 +2,11 @@
 pub mod expected;
 pub mod lent;
 pub mod library;
+pub mod listings;
 pub mod lists;
+pub mod outputs;
 pub mod replay;
 pub mod shrink;
+pub mod stack;
 pub mod tally;
 pub mod texts;

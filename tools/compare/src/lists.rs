@@ -98,10 +98,13 @@ fn varied(call: Call, random: &mut Random) -> Call {
     other
 }
 
-/// Another byte somewhere in an operand, a byte more or less, or random ones.
 fn spoil(call: &mut Call, random: &mut Random) {
     let i = random.below(call.operands.len());
-    let operand = &mut call.operands[i];
+    spoil_operand(&mut call.operands[i], random);
+}
+
+/// Another byte somewhere in an operand, a byte more or less, or random ones.
+pub fn spoil_operand(operand: &mut Vec<u8>, random: &mut Random) {
     let place = random.below(operand.len() + 1);
     let kinds = [FF, FT, AT0, AT1, AND, OR, I0, I1, DIM, NEG, MEET, JOIN, 6, 15, 22, 255];
     let byte = *random.pick(&kinds);

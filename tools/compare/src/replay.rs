@@ -2,6 +2,7 @@
 use crate::expected::{Expected, Item, List, Run};
 use crate::lent::Lent;
 use crate::library;
+use crate::stack::on_stack;
 use judge::call::{Answer, Call};
 use judge::ledger::LONGEST;
 
@@ -35,23 +36,6 @@ impl Ledgers {
     }
 }
 
-fn first_other(a: &[u8], b: &[u8]) -> usize {
-    a.iter().zip(b).take_while(|(x, y)| x == y).count()
-}
-
-/// Whether a lent slice has these bytes and its surroundings stayed.
-fn same(what: &str, lent: &Lent, want: &[u8]) -> Result<(), String> {
-    let have = lent.content();
-    if have != want {
-        let i = first_other(have, want);
-        return Err(format!("{what}: byte {i} of {} is {}, expected {}", want.len(), have[i], want[i]));
-    }
-    if !lent.guarded() {
-        return Err(format!("{what}: a byte before or behind the slice was written"));
-    }
-    Ok(())
-}
-
 fn same_number(what: &str, have: i64, want: i64) -> Result<(), String> {
     if have == want {
         return Ok(());
@@ -78,7 +62,7 @@ fn ask(ledger: &mut [u8], call: &Call, answer: &Answer, start: usize) -> Result<
     let number = library::ask(ledger, &given, &mut outputs);
     same_number("the call", number, library::number(answer))?;
     for (i, output) in outputs.iter().enumerate() {
-        same(&format!("output {i}"), output, &output_after(&before[i], answer, i))?;
+        output.same(&format!("output {i}"), &output_after(&before[i], answer, i))?;
     }
     if given.operands != call.operands {
         return Err("an operand was written".into());
@@ -96,7 +80,7 @@ fn ask_damaged(ledgers: &mut Ledgers, item: &Item, expected: &Expected, start: u
     if let Some(answer) = &expected.answer {
         bytes += ask(ledgers.ours.slice(), &item.call, answer, start)?;
     }
-    same("the damaged ledger", &ledgers.ours, &damaged.after)?;
+    ledgers.ours.same("the damaged ledger", &damaged.after)?;
     ledgers.ours.slice().copy_from_slice(&ledgers.expected);
     Ok(bytes)
 }
@@ -111,7 +95,7 @@ fn ask_plainly(
     let answer = expected.answer.as_ref().expect("an answer of the Rust");
     let bytes = ask(ledgers.ours.slice(), &item.call, answer, start)?;
     ledgers.grow(&run.records, expected.used);
-    same("the ledger", &ledgers.ours, &ledgers.expected)?;
+    ledgers.ours.same("the ledger", &ledgers.expected)?;
     Ok(bytes + ledgers.expected.len())
 }
 
@@ -121,7 +105,7 @@ fn finish(ledgers: &Ledgers, run: &Run) -> Result<usize, String> {
     let steps = if (4..=LONGEST).contains(&bytes.len()) { run.steps as i64 } else { -1 };
     same_number("lf_well_formed", library::well_formed(bytes), steps)?;
     same_number("lf_step_desk", library::step_desk(bytes), steps)?;
-    same("the ledger after the desk", &ledgers.ours, &ledgers.expected)?;
+    ledgers.ours.same("the ledger after the desk", &ledgers.expected)?;
     Ok(bytes.len())
 }
 
@@ -143,9 +127,5 @@ fn whole_list(list: &List, run: &Run) -> Result<u64, Difference> {
 /// Asks a list of our library in a thread of 2 MiB of stack; its name says
 /// which list it was if the stack runs out. The number of bytes compared.
 pub fn replay(name: &str, list: &List, run: &Run) -> Result<u64, Difference> {
-    std::thread::scope(|scope| {
-        let thread = std::thread::Builder::new().name(name.to_owned()).stack_size(STACK);
-        let asked = thread.spawn_scoped(scope, || whole_list(list, run)).expect("a thread");
-        asked.join().unwrap_or_else(|panic| std::panic::resume_unwind(panic))
-    })
+    on_stack(STACK, name, || whole_list(list, run))
 }

@@ -1,6 +1,8 @@
 //! Texts through our readers and through a model of document 01.
 //! usage: texts [TEXTS] [SEED]
 use compare::lent::Lent;
+use compare::outputs::{self, Said};
+use compare::stack::on_stack;
 use compare::texts::library::{claim, formula};
 use compare::texts::{made, model};
 use judge::formula::Sort;
@@ -18,65 +20,42 @@ struct Tally {
     differences: usize,
 }
 
-/// The length of an output: what is needed, one byte less, none, more.
-fn room(random: &mut Random, needed: usize) -> usize {
-    match random.below(6) {
-        0 => needed.saturating_sub(1),
-        1 => 0,
-        2 => needed,
-        _ => needed + random.below(40),
-    }
-}
-
-/// An output as it should be afterwards.
-fn after(mut before: Vec<u8>, made: &[u8]) -> Vec<u8> {
-    before[..made.len()].copy_from_slice(made);
-    before
-}
-
 impl Tally {
-    fn note(&mut self, what: &'static str, text: &[u8], expected: i64, answered: i64, bytes_agree: bool) {
-        let kind = if expected < 0 { expected } else { 0 };
-        *self.answers.entry((what, kind)).or_default() += 1;
-        if expected != answered || !bytes_agree {
+    /// One text read into outputs of some lengths, beside what the model says of it.
+    fn read(
+        &mut self,
+        random: &mut Random,
+        what: &'static str,
+        text: &[u8],
+        said: &Said,
+        read: impl FnOnce(&[u8], &mut [Lent]) -> i64,
+        outputs: usize,
+    ) {
+        let needed = |i: usize| said.as_ref().map_or(0, |(_, results)| results[i].len());
+        let rooms: Vec<_> = (0..outputs).map(|i| outputs::room(random, needed(i))).collect();
+        let lent = Lent::new(text);
+        let asked = outputs::ask(said, &rooms, |out| read(lent.content(), out));
+        let asked = asked.and_then(|_| lent.same("the text", text));
+        *self.answers.entry((what, outputs::number(said, &rooms).min(0))).or_default() += 1;
+        if let Err(difference) = asked {
             self.differences += 1;
-            println!("DIFFERENCE reading a {what}: expected {expected}, answered {answered}, bytes agree: {bytes_agree}");
+            println!("DIFFERENCE reading a {what}: {difference}");
             println!("  {}", String::from_utf8_lossy(text).escape_debug());
         }
     }
     fn formula(&mut self, random: &mut Random, sort: Sort, text: &[u8]) {
-        let said = model::formula(sort, text);
-        let needed = said.as_ref().map_or(0, Vec::len);
-        let mut out = Lent::pattern(room(random, needed), needed);
-        let before = out.content().to_vec();
-        let (number, bytes) = match said {
-            Err(q) => (-i64::from(q), before),
-            Ok(f) if f.len() > before.len() => (-6, before),
-            Ok(f) => (f.len() as i64, after(before, &f)),
-        };
-        let lent = Lent::new(text);
-        let answered = formula(sort, lent.content(), out.slice());
-        let agree = out.content() == bytes && out.guarded() && lent.guarded() && lent.content() == text;
-        self.note(if sort == Sort::Face { "face" } else { "interval" }, text, number, answered, agree);
+        let said = outputs::one(model::formula(sort, text));
+        let what = if sort == Sort::Face { "face" } else { "interval" };
+        self.read(random, what, text, &said, |text, out| formula(sort, text, out[0].slice()), 1);
     }
     fn claim(&mut self, random: &mut Random, text: &[u8]) {
-        let said = model::claim(text);
-        let needed = said.as_ref().map_or((0, 0), |(_, a, b)| (a.len(), b.len()));
-        let mut a = Lent::pattern(room(random, needed.0), needed.0);
-        let mut b = Lent::pattern(room(random, needed.1), needed.1);
-        let before = (a.content().to_vec(), b.content().to_vec());
-        let (number, bytes) = match said {
-            Err(q) => (-i64::from(q), before),
-            Ok((_, x, y)) if x.len() > before.0.len() || y.len() > before.1.len() => (-6, before),
-            Ok((d, x, y)) => {
-                let number = d as i64 + ((x.len() as i64) << 16) + ((y.len() as i64) << 32);
-                (number, (after(before.0, &x), after(before.1, &y)))
-            }
+        let packed = |d: usize, a: &[u8], b: &[u8]| d as i64 + ((a.len() as i64) << 16) + ((b.len() as i64) << 32);
+        let said = model::claim(text).map(|(d, a, b)| (packed(d, &a, &b), vec![a, b]));
+        let read = |text: &[u8], out: &mut [Lent]| {
+            let (a, b) = out.split_at_mut(1);
+            claim(text, a[0].slice(), b[0].slice())
         };
-        let lent = Lent::new(text);
-        let answered = claim(lent.content(), a.slice(), b.slice());
-        let same = a.content() == bytes.0 && b.content() == bytes.1;
-        self.note("claim", text, number, answered, same && a.guarded() && b.guarded() && lent.guarded());
+        self.read(random, "claim", text, &said, read, 2);
     }
     fn all(&mut self, random: &mut Random, text: &[u8]) {
         self.formula(random, Sort::Face, text);
@@ -88,7 +67,8 @@ impl Tally {
 /// Texts at the limits, each also cut short by every token at its end.
 fn fixed() -> Vec<Vec<u8>> {
     let number = |n: usize| "(s ".repeat(n) + "z" + &")".repeat(n);
-    let mut texts: Vec<String> = vec![String::new(), " ".into(), "\n".into(), "ff".into(), "(ff)".into(), "((ff))".into(), "()".into()];
+    let mut texts: Vec<String> =
+        vec![String::new(), " ".into(), "\n".into(), "ff".into(), "(ff)".into(), "((ff))".into(), "()".into()];
     for n in [253, 254, 255, 256] {
         texts.push(format!("(at0 {})", number(n)));
         texts.push(format!("(dim {})", number(n)));
@@ -109,8 +89,14 @@ fn fixed() -> Vec<Vec<u8>> {
         }
     }
     texts.push("(for (at0 ".to_owned() + &number(254) + ") ".repeat(1).as_str() + "ff)");
-    texts.push(format!("{} {0} {}", "(for ".repeat(255), format!("(at1 {}) ", number(254)).repeat(256) + &")".repeat(255)));
-    texts.push("(for ".repeat(255) + &format!("(at1 {})", number(254)) + &format!(" (at1 {}))", number(254)).repeat(255));
+    texts.push(format!(
+        "{} {0} {}",
+        "(for ".repeat(255),
+        format!("(at1 {}) ", number(254)).repeat(256) + &")".repeat(255)
+    ));
+    texts.push(
+        "(for ".repeat(255) + &format!("(at1 {})", number(254)) + &format!(" (at1 {}))", number(254)).repeat(255),
+    );
     texts.push("(".repeat(100_000));
     texts.push("f".repeat(1_000_000));
     texts.push(" ".repeat(1_000_000) + "ff");
@@ -143,7 +129,7 @@ fn main() -> ExitCode {
         }
         tally
     };
-    let tally = std::thread::Builder::new().stack_size(1 << 20).spawn(work).unwrap().join().unwrap();
+    let tally = on_stack(1 << 20, "texts", work);
     for ((what, answer), n) in &tally.answers {
         let said = if *answer == 0 { "read".into() } else { format!("refused {}", -answer) };
         println!("{what}, {said}: {n}");

@@ -3,7 +3,8 @@ use judge::formula::{HEADS, Sort, Tree, has_dimension};
 use judge::random::{Random, SHAPES, face, interval};
 
 const WORDS: [&str; 22] = [
-    "ff", "ft", "at0", "at1", "fand", "for", "i0", "i1", "dim", "neg", "meet", "join", "z", "s", "entails", "f", "fff", "at", "(", ")", "((", "))",
+    "ff", "ft", "at0", "at1", "fand", "for", "i0", "i1", "dim", "neg", "meet", "join", "z", "s", "entails", "f", "fff",
+    "at", "(", ")", "((", "))",
 ];
 const BYTES: [u8; 12] = [b' ', b'\n', b'(', b')', b'\t', b'\r', 0, 127, 128, 255, b'z', b's'];
 

@@ -42,7 +42,7 @@ pub const LARGE: Style = Style {
     broken: 2,
 };
 
-pub struct Lists {
+struct Lists {
     random: Random,
     style: Style,
     dims: Vec<u8>,
@@ -68,15 +68,27 @@ fn some_dims(random: &mut Random, most: usize) -> Vec<u8> {
 
 /// A list by its seed: the ledger's length and the calls.
 pub fn list(seed: u64, style: Style) -> (usize, Vec<Call>) {
+    let (mut lists, length, count) = start(seed, style);
+    let calls = (0..count).map(|_| lists.call()).collect();
+    (length, calls)
+}
+
+/// Claims that share subformulas, by their seed: d and both faces, whatever their search costs.
+pub fn claims(seed: u64, style: Style) -> Vec<(usize, Tree, Tree)> {
+    let (mut lists, _, count) = start(seed, style);
+    (0..count).map(|_| lists.claim()).collect()
+}
+
+/// What a list is made with, its ledger's length, how many calls it has.
+fn start(seed: u64, style: Style) -> (Lists, usize, usize) {
     let mut random = Random::new(seed);
     let dims = some_dims(&mut random, style.most_dims);
     let bound = dims.iter().map(|n| usize::from(*n) + 1).max().unwrap_or(0);
     let length = *random.pick(style.lengths);
     let count = random.between(1, style.most_calls);
     let shape = (!random.chance(30)).then(|| *random.pick(&SHAPES));
-    let mut lists = Lists { random, style, dims, d: bound, shape, faces: vec![], intervals: vec![] };
-    let calls = (0..count).map(|_| lists.call()).collect();
-    (length, calls)
+    let lists = Lists { random, style, dims, d: bound, shape, faces: vec![], intervals: vec![] };
+    (lists, length, count)
 }
 
 impl Lists {
@@ -186,6 +198,11 @@ impl Lists {
             }
         }
         self.plain(Name::Face)
+    }
+    fn claim(&mut self) -> (usize, Tree, Tree) {
+        let d = self.d();
+        let (a, b) = self.implication();
+        (d, a, b)
     }
     fn implication(&mut self) -> (Tree, Tree) {
         let a = self.formula(Sort::Face);
