@@ -13,7 +13,8 @@ ghost use Rattle.text.specs.Answers.{delivered, bothDelivered};
 ghost use Rattle.writing.specs.Answers.{written};
 ghost use Rattle.listing.specs.Answers.{lineOf};
 ghost use Rattle.claims.specs.Facesteps.{facesteps};
-ghost use Rattle.numbers.specs.Answers.{stepsNumber, deskNumber, Numbers, Reads, ReadsBoth, isOne};
+ghost use Rattle.repeat_test.specs.Repeats.{repeatTest};
+ghost use Rattle.numbers.specs.Answers.{stepsNumber, deskNumber, repeatNumber, Numbers, Reads, ReadsBoth, isOne};
 
 // How many steps the ledger has, or refusal 1.
 #[no_mangle]
@@ -29,6 +30,14 @@ pub extern "C" fn lf_step_desk(ledger: &[u8]) -> u64
     ensures { λ r. ⌜ r ≡ deskNumber (deskAnswer judge (now (ledger .entry))) ⌝ }
 {
     numbers::verdict(desk::step_desk(ledger))
+}
+
+// 1 where both ledgers end in an entails step with equal operand bytes, else 0, or refusal 1.
+#[no_mangle]
+pub extern "C" fn lf_repeats(l: &[u8], m: &[u8]) -> u64
+    ensures { λ r. ⌜ r ≡ repeatNumber (repeatTest (readLedger (now (l .entry))) (readLedger (now (m .entry)))) ⌝ }
+{
+    numbers::compared(repeat_test::repeats(l, m))
 }
 
 // The step that all dimensions of the face f are below d.

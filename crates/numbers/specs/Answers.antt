@@ -13,6 +13,8 @@ use Rattle.ledger.specs.declared.Checked.the-variants.{Steps, Ill}
 use Rattle.text.specs.Reading
 use Rattle.text.specs.Reading.{Outcome, done}
 use Rattle.text.specs.Answers.{Delivered, Lengths, BothDelivered}
+use Rattle.repeat_test.specs.Repeats
+use Rattle.repeat_test.specs.Repeats.{Said}
 
 -- Refusal n is the bits of -n.
 abbrev pub refused : ℕ → ℕ
@@ -44,6 +46,12 @@ lengthNumber (Reading.refused e) = refused (number e)
 abbrev pub claimNumber : Outcome Lengths → ℕ
 claimNumber (done c) = c .dimensions + 65536 * c .left + 4294967296 * c .right
 claimNumber (Reading.refused e) = refused (number e)
+
+-- 1 where the ledgers repeat each other, 0 where not, or the refusal.
+abbrev pub repeatNumber : Said → ℕ
+repeatNumber (Repeats.answered true) = 1
+repeatNumber (Repeats.answered false) = 0
+repeatNumber (Repeats.refused n) = refused n
 
 -- The number of a reader, and every byte of its outputs, are those of what it delivers.
 pub record Reads (x : Delivered) (r : ℕ) (out′ : List ℕ) : Type 0 where

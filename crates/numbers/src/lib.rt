@@ -2,6 +2,7 @@
 use desk::Verdict;
 use ledger::Checked;
 use refusals::Refusal;
+use repeat_test::Compared;
 use replies::Answer;
 use replies::Made;
 use text::Claim;
@@ -11,7 +12,8 @@ ghost use Rattle.calculus.specs.Door.{refused as refusedBy};
 ghost use Rattle.refusals.specs.Refusals.{refusalOf};
 ghost use Rattle.replies.specs.Replying.{said, saidOne, saidBoth};
 ghost use Rattle.text.specs.Answers.{saidLength, saidClaim};
-ghost use Rattle.numbers.specs.Answers.{stepsNumber, replyNumber, lengthNumber, claimNumber, isOne};
+ghost use Rattle.repeat_test.specs.Repeats.{inDocument};
+ghost use Rattle.numbers.specs.Answers.{stepsNumber, replyNumber, lengthNumber, claimNumber, repeatNumber, isOne};
 ghost use Rattle.numbers.specs.Packing.{Packs, ClaimFits, Low, verdictNumber};
 
 // Refusal q as -q.
@@ -83,6 +85,17 @@ pub fn verdict(v: Verdict) -> u64
         Verdict::Passes(n) => n as u64,
         Verdict::Ill => 18446744073709551615,
         Verdict::Fails(n) => 18446744073709551606 - 16 * (n as u64),
+    }
+}
+
+// Whether two ledgers repeat each other.
+pub fn compared(a: Compared) -> u64
+    ensures { λ r. ⌜ r ≡ repeatNumber (inDocument a) ⌝ }
+{
+    match a {
+        Compared::Repeats => 1,
+        Compared::Fresh => 0,
+        Compared::Refused(e) => refused(e),
     }
 }
 
