@@ -18,22 +18,14 @@ fn ends_line(s: &[u8]) -> bool {
     false
 }
 
-// Reads some bytes behind the first n; how many there are then.
-fn read_more(space: &mut [u8], n: usize) -> usize
-    requires { ⌜ n ≤ length (now space) ⌝ }
-    ensures { λ r. ⌜ (n ≤ r) × (r ≤ length (now (space .entry))) ⌝ }
-{
-    let got = libc::read(STDIN_FILENO, &mut space[n..]);
-    n + io::count(got, &space[n..])
-}
-
 // Reads until a line has ended, the input has, or the space is full; how many bytes were read.
 fn read_line(space: &mut [u8]) -> usize
     ensures { λ r. ⌜ r ≤ length (now (space .entry)) ⌝ }
 {
     let mut n: usize = 0;
     while n < space.len() {
-        let m = read_more(space, n);
+        let more = stdio::read_more(STDIN_FILENO, space, n);
+        let m = more.len;
         if m == n {
             return n;
         }

@@ -1,9 +1,10 @@
-// Text, numbers and bytes on standard output, and numbers and bytes from standard input: what the programs of the gate share.
+// Text, numbers and bytes on standard output, numbers and bytes from standard input, and whole inputs: what the programs share.
 use libc::STDIN_FILENO;
 use libc::STDOUT_FILENO;
 ghost use mathlib.Core.Path.{_≡_};
-ghost use Prim.Native.Nat.{_<_};
+ghost use Prim.Native.Nat.{_<_, _≤_};
 ghost use lib.ListN.{length};
+ghost use Rattle.io.specs.Counts.{Counts};
 
 pub fn text(t: &[u8]) {
     io::write_all(STDOUT_FILENO, t);
@@ -11,6 +12,13 @@ pub fn text(t: &[u8]) {
 
 pub fn number(n: usize) {
     io::print_decimal(STDOUT_FILENO, n as u64);
+}
+
+// The words and a number, as a line.
+pub fn line(words: &[u8], n: usize) {
+    text(words);
+    number(n);
+    text(b"\n");
 }
 
 // Each byte in decimal, with a space before it.
@@ -80,6 +88,44 @@ pub fn read_bytes(space: &mut [u8], n: usize) -> &[u8] {
         return part;
     }
     space
+}
+
+// What was read: so many bytes, in front of the space, and whether no read failed.
+pub struct Content {
+    pub len: usize,
+    pub whole: bool,
+}
+
+// Reads once, behind the first n bytes; there are as many then where the input has ended or the read failed.
+pub fn read_more(fd: i32, space: &mut [u8], n: usize) -> Content
+    requires { ⌜ n ≤ length (now space) ⌝ }
+    ensures { λ r. ⌜ (n ≤ r .len) × (r .len ≤ length (now (space .entry))) ⌝ }
+{
+    let got = libc::read(fd, &mut space[n..]);
+    let len = n + io::count(got, &space[n..]);
+    Content {
+        len,
+        whole: got >= 0,
+    }
+}
+
+// Reads until the input ends, a read fails or the space is full: one read may bring fewer bytes than there are.
+pub fn read_all(fd: i32, space: &mut [u8]) -> Content
+    ensures { λ r. ⌜ Counts (r .len) (now (space .exit)) ⌝ }
+{
+    let mut n: usize = 0;
+    while n < space.len() {
+        let more = read_more(fd, space, n);
+        let m = more.len;
+        if m == n {
+            return more;
+        }
+        n = m;
+    }
+    Content {
+        len: n,
+        whole: true,
+    }
 }
 
 // Room for a ledger, one byte more than the longest has, so that a longer one is refused and not cut.

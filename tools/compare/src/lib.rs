@@ -5,6 +5,7 @@ pub mod library;
 pub mod listings;
 pub mod lists;
 pub mod outputs;
+pub mod repeats;
 pub mod replay;
 pub mod shrink;
 pub mod stack;

@@ -84,7 +84,7 @@ fn some_steps(random: &mut Random, count: usize) -> BTreeSet<u64> {
 }
 
 /// The ledger that a list of calls leaves, of the list's length or not much longer than its steps.
-fn after(length: usize, calls: &[Call], random: &mut Random) -> Vec<u8> {
+pub fn after(length: usize, calls: &[Call], random: &mut Random) -> Vec<u8> {
     let mut session = Session::new(length);
     calls.iter().for_each(|call| drop(session.ask(call)));
     let used = session.used();
@@ -93,7 +93,7 @@ fn after(length: usize, calls: &[Call], random: &mut Random) -> Vec<u8> {
 }
 
 /// One or two bytes made others, mostly among the records.
-fn damaged(bytes: &[u8], random: &mut Random) -> Vec<u8> {
+pub fn damaged(bytes: &[u8], random: &mut Random) -> Vec<u8> {
     let used = 4 + u32::from_le_bytes(bytes[..4].try_into().unwrap()) as usize;
     let mut out = bytes.to_vec();
     for _ in 0..random.between(1, 2) {
