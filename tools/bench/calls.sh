@@ -4,5 +4,5 @@
 # LF_LIBRARY and ORACLE_SOURCE as in tools/compare/run.sh.
 set -euo pipefail
 here=$(cd "$(dirname "${BASH_SOURCE[0]}")" && pwd)
-. "$here/../compare/build.sh"
+. "$here/../compare/build.sh" calls
 exec "$built/calls"

@@ -3,5 +3,5 @@
 # usage: texts.sh [ROUNDS]
 set -euo pipefail
 here=$(cd "$(dirname "${BASH_SOURCE[0]}")" && pwd)
-. "$here/../compare/build.sh"
+. "$here/../compare/build.sh" text_times
 exec "$built/text_times" "$@"

@@ -1,4 +1,4 @@
-# Builds the programs that ask both sides; read by run.sh and by tools/bench/calls.sh. Sets $built.
+# Builds the programs that it is given, which ask both sides; read by the scripts here and in tools/bench. Sets $built.
 root=$(cd "$(dirname "${BASH_SOURCE[0]}")/../.." && pwd)
 source=${ORACLE_SOURCE:-$root/../shared/docs/src}
 if ! ORACLE_SOURCE=$(cd "$source" 2>/dev/null && pwd); then
@@ -12,5 +12,5 @@ fi
 LF_LIBRARY=$(cd "${LF_LIBRARY:-$root/target/staticlib}" && pwd)
 export LF_LIBRARY
 export CARGO_TARGET_DIR=${CARGO_TARGET_DIR:-$root/target/compare}
-cargo build --quiet --release --offline -j1 --manifest-path "$root/tools/compare/Cargo.toml"
+cargo build --quiet --release --offline -j1 --manifest-path "$root/tools/compare/Cargo.toml" "${@/#/--bin=}"
 built=$CARGO_TARGET_DIR/release

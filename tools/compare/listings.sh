@@ -3,5 +3,5 @@
 # usage: listings.sh [CLAIMS] [TEXTS] [SEED]     200,000 claims, 200,000 damaged lines, and a fixed seed unless said
 set -euo pipefail
 here=$(cd "$(dirname "${BASH_SOURCE[0]}")" && pwd)
-. "$here/build.sh"
+. "$here/build.sh" listings rust_facesteps
 exec "$built/listings" "$@"

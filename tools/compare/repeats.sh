@@ -3,5 +3,5 @@
 # usage: repeats.sh [PAIRS] [SEED]     500,000 pairs and a fixed seed unless said
 set -euo pipefail
 here=$(cd "$(dirname "${BASH_SOURCE[0]}")" && pwd)
-. "$here/build.sh"
+. "$here/build.sh" repeats
 exec "$built/repeats" "$@"

@@ -5,5 +5,5 @@
 # The published source is found as tools/oracle/run.sh does: ORACLE_SOURCE, else ../shared/docs/src beside the repository.
 set -euo pipefail
 here=$(cd "$(dirname "${BASH_SOURCE[0]}")" && pwd)
-. "$here/build.sh"
+. "$here/build.sh" compare
 exec "$built/compare" "$@"

@@ -4,6 +4,7 @@ pub mod lent;
 pub mod library;
 pub mod listings;
 pub mod lists;
+pub mod normal;
 pub mod outputs;
 pub mod repeats;
 pub mod replay;

@@ -24,7 +24,7 @@ pub fn short(said: &Said, rooms: &[usize]) -> u64 {
 }
 
 /// Asks once for each length; the lent input stays as it is.
-fn each(said: &Said, rooms: &[usize], input: &[u8], call: impl Fn(&[u8], &mut [u8]) -> i64) -> Result<(), String> {
+pub fn each(said: &Said, rooms: &[usize], input: &[u8], call: impl Fn(&[u8], &mut [u8]) -> i64) -> Result<(), String> {
     for room in rooms {
         let lent = Lent::new(input);
         outputs::ask(said, &[*room], |out| call(lent.content(), out[0].slice()))?;
