@@ -12,6 +12,7 @@ ghost use Rattle.text.specs.Reading.{done, map, readFormula, readClaim};
 ghost use Rattle.text.specs.Answers.{delivered, bothDelivered};
 ghost use Rattle.writing.specs.Answers.{written};
 ghost use Rattle.listing.specs.Answers.{lineOf};
+ghost use Rattle.normal.specs.Answers.{normalOf};
 ghost use Rattle.claims.specs.Facesteps.{facesteps};
 ghost use Rattle.repeat_test.specs.Repeats.{repeatTest};
 ghost use Rattle.numbers.specs.Answers.{stepsNumber, deskNumber, repeatNumber, Numbers, Reads, ReadsBoth, isOne};
@@ -171,6 +172,14 @@ pub extern "C" fn lf_write_interval(r: &[u8], out: &mut [u8]) -> u64
     ensures { λ x. ⌜ Reads (delivered (written Sort.Intervals (readAll Sort.Intervals (now (r .entry)))) (now (out .entry))) x (now (out .exit)) ⌝ }
 {
     numbers::length(writing::write_formula(Sort::Intervals, r, out))
+}
+
+// The normal form of a face, in front of the output.
+#[no_mangle]
+pub extern "C" fn lf_normal(f: &[u8], out: &mut [u8]) -> u64
+    ensures { λ r. ⌜ Reads (delivered (map (encode Sort.Faces) (normalOf (readAll Sort.Faces (now (f .entry))))) (now (out .entry))) r (now (out .exit)) ⌝ }
+{
+    numbers::length(normal::length(normal::normal(f, out)))
 }
 
 // The line of a step of the ledger, in front of the output; nothing past the last step.

@@ -16,6 +16,7 @@ use Rattle.formula.specs.declared.Measured.{Measured}
 use Rattle.formula.specs.declared.Measured.the-variants.{Formula, Ill}
 use Rattle.formula.specs.Bytes.{Tree, encode, got, read, readAll, nodes, bound, maxNodes, maxBound}
 use Rattle.formula.specs.Answers.{pick, sizeOf, measuredAs, measured}
+use Rattle.formula.proofs.Measuring.{Sized}
 use Rattle.formula.proofs.Reading.{read-encode, encode-readAll}
 use Rattle.calculus.specs.Refusal.{not-a-formula, too-many-nodes, large-dimension, short-output}
 use Rattle.refusals.specs.declared.Refusal.the-variants.{NotAFormula, TooManyNodes, LargeDimension, ShortOutput}
@@ -54,20 +55,6 @@ sized-short g h = record { it = λ t m r. short-delivers (g .it t m r .wrote) h 
 
 pub sized-wrote : {s : Sort} {l z z′ out out′ : List ℕ} {p q : Place} → FormulaPrints s l z 0 p z′ → p .to ≤ length out → FormulaPrints s l out 0 q out′ → Delivered s l out (Bytes (q .to)) out′
 sized-wrote g h k = record { it = λ t m r. wrote-delivers (g .it t m r .wrote) h (k .it t m r .wrote) }
-
--- What was measured is the size of the formula that the bytes are.
-pub record Sized (s : Sort) (f : List ℕ) (z : Size) : Type 0 where
-  pub tree : Tree s
-  pub whole : readAll s f ≡ some tree
-  pub size : sizeOf s tree ≡ z
-
-pub sized-by : (s : Sort) (f : List ℕ) {m : Measured} {z : Size} → m ≡ measured s f → m ≡ Formula z → Sized s f z
-unfolding measured
-sized-by s f {z = z} e i = go (readAll s f) refl (sym e ∙ i)
-  where
-    go : (o : Option (Tree s)) → readAll s f ≡ o → measuredAs s o ≡ Formula z → Sized s f z
-    go none h k = absurd (let q : _≡_ {A = ℕ} 0 1 = cc in omega arith)
-    go (some t) h k = record { tree = t; whole = h; size = let q : sizeOf s t ≡ z = cc in q }
 
 -- Nothing but a formula within the limits is written.
 pub writes-ill : (s : Sort) {f : List ℕ} (out : List ℕ) {m : Measured} → m ≡ measured s f → m ≡ Ill → WritesInto s f out (Refused NotAFormula) out

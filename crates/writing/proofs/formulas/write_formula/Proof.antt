@@ -1,7 +1,8 @@
 use borrow.Author.Needs.{needs}
 use Rattle.writing.proofs.formulas.write_formula.Statement.{statement}
 use Rattle.writing.proofs.formulas.write_formula.Tie as tie
-use Rattle.writing.proofs.DeliverLaws.{sized-by, writes-ill, writes-many, writes-high, writes-front, writes-in}
+use Rattle.formula.proofs.Measuring.{sized-by}
+use Rattle.writing.proofs.DeliverLaws.{writes-ill, writes-many, writes-high, writes-front, writes-in}
 
 measure-requires : tie.Need-measure-requires
 measure-requires c κs = search needs

@@ -1,0 +1,15 @@
+pub mod BitLaws
+pub mod Carrying
+pub mod Examples
+pub mod Keeping
+pub mod Lengths
+pub mod ListLaws
+pub mod Literals
+pub mod Meaning
+pub mod Members
+pub mod Orders
+pub mod Selecting
+pub mod Sets
+pub mod Shaping
+pub mod Unique
+pub mod WordLaws

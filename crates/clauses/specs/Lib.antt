@@ -1,0 +1,4 @@
+pub mod Lists
+pub mod Normal
+pub mod Shape
+pub mod Words

@@ -1,0 +1,50 @@
+-- A literal's bytes are its kind and its dimension.
+use borrow.Author.Needs.{needs}
+use Rattle.forms.proofs.put_literal.Statement.{statement}
+use Rattle.forms.proofs.put_literal.Tie as tie
+use native.Mathlib.Omega.{arith}
+use mathlib.Core.Path.{ap, _∙_}
+use Prim.Native.Nat.{_+_, _%_}
+use lib.ListN.{length, length-set}
+use Rattle.forms.proofs.PutLaws.{literal-bytes, literal-wrote}
+
+cast-out : tie.Need-cast-out
+cast-out c = search needs
+
+add-out : tie.Need-add-out
+add-out c = search needs
+
+slice-write-out : tie.Need-slice-write-out
+slice-write-out c = omega (arith, c .before .pre .1, ap length (literal-bytes (c .before .args .k)))
+
+add-put-dim : tie.Need-add-put-dim
+add-put-dim c = search needs
+
+put-dim-requires : tie.Need-put-dim-requires
+put-dim-requires c κs = let a = c .before .before .args in (omega (arith, c .before .before .pre .1, ap length (literal-bytes (a .k)), length-set (a .out .now) (a .to) (2 + a .k % 2)), c .before .before .pre .0)
+
+add-result : tie.Need-add-result
+add-result c = search needs
+
+add-result-2 : tie.Need-add-result-2
+add-result-2 c = search needs
+
+same-length : tie.Need-same-length
+same-length c = let a = c .before .before .before .before .before .args in c .before .before .put-dim .kept .0 ∙ length-set (a .out .now) (a .to) (2 + a .k % 2)
+
+returns : tie.Need-returns
+returns c = literal-wrote (c .before .before .before .before .before .args .k) (c .before .before .put-dim .ensures)
+
+pub put-literal-spec : {M : Type 1} → statement M
+put-literal-spec =
+    tie.close
+    (tie.spec
+    cast-out
+    add-out
+    slice-write-out
+    add-put-dim
+    put-dim-requires
+    add-result
+    add-result-2
+    same-length
+    returns)

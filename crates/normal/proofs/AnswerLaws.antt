@@ -1,0 +1,188 @@
+-- What is answered of a normal form, question by question.
+use Prim.Native.Nat.{ℕ, zero, suc, _+_, _*_, _≤_, _<_}
+use native.Mathlib.Omega.{arith}
+use native.Mathlib.Nat.{zero-add}
+use mathlib.Core.Path.{_≡_, refl, sym, ap, ap₂, _∙_, subst}
+use mathlib.Core.Bool.{Bool, true, false, _&&_}
+use mathlib.Core.Option.{Option, none, some, Option·some-injective}
+use mathlib.Core.List.{List, [], _∷_, _++_}
+use lib.Dec.{leb}
+use lib.ListN.{length, take, drop}
+use lib.Seq.{sets, sets-eq, length-sets, take-append-seam}
+use borrow.Author.Tests.{le-leb, lt-leb, leb-true, leb-false}
+use Rattle.formula.specs.Formula
+use Rattle.formula.specs.declared.Sort.the-variants.{Faces}
+use Rattle.formula.specs.declared.Size.{Size}
+use Rattle.formula.specs.declared.Measured.{Measured}
+use Rattle.formula.specs.declared.Measured.the-variants.{Ill}
+use Rattle.formula.specs.Bytes.{encode, encodeFace, readAll, nodes, nodesFace, bound, maxNodes, maxBound}
+use Rattle.formula.specs.Answers.{pick, sizeOf, keeps, measured, measuredAs}
+use Rattle.formula.proofs.Measuring.{Sized}
+use Rattle.formula.proofs.Reading.{readAll-encode, encode-readAll, encode-pos}
+use Rattle.calculus.specs.Refusal.{not-a-formula, too-many-nodes, large-dimension, large-result, short-output}
+use Rattle.refusals.specs.declared.Refusal.the-variants.{NotAFormula, TooManyNodes, LargeDimension, LargeResult, ShortOutput}
+use Rattle.text.specs.Reading.{Outcome, refused, done, map}
+use Rattle.text.specs.Answers.{Delivered, delivered, saidLength}
+use Rattle.text.specs.declared.Length.{Length}
+use Rattle.clauses.specs.Normal.{normal}
+use Rattle.forms.specs.Forms.{Wrote}
+use Rattle.forms.proofs.FormLaws.{form-short}
+use Rattle.dnf.specs.Forming.{shortNormal, Whole, Normals}
+use Rattle.normal.specs.declared.Normalised.{Normalised}
+use Rattle.normal.specs.declared.Normalised.the-variants.{Form, Refused}
+use Rattle.normal.specs.Answers.{limited, normalOf, Formed, put, said, Normalises}
+use Rattle.normal.specs.Delivering.{Face, Delivers, Kept, Gives}
+
+-- ---- a face that was made, delivered
+
+face-size : {l : List ℕ} {z : Size} → Sized Faces l z → (g : Formula.Face) → l ≡ encodeFace g → z ≡ sizeOf Faces g
+face-size s g e = sym (s .size) ∙ ap (sizeOf Faces) (Option·some-injective _ _ (sym (s .whole) ∙ ap (readAll Faces) e ∙ readAll-encode Faces g))
+
+limited-by : (g : Formula.Face) (out : List ℕ) {b : Bool} → keeps (sizeOf Faces g) ≡ b → put (limited (some g)) out ≡ put (pick b (done g) (refused large-result)) out
+limited-by g out e = ap (λ b. put (pick b (done g) (refused large-result)) out) e
+
+put-by : (g : Formula.Face) (out : List ℕ) {b : Bool} → leb (length (encodeFace g)) (length out) ≡ b → put (done g) out ≡ pick b (record { answer = done (sizeOf Faces g); output = sets out 0 (encodeFace g) }) (record { answer = refused short-output; output = out })
+put-by g out e = ap (λ b. pick b (record { answer = done (sizeOf Faces g); output = sets out 0 (encodeFace g) }) (record { answer = refused short-output; output = out })) e
+
+module _ {l : List ℕ} {z : Size} (s : Sized Faces l z) where
+  kept-as : {b : Bool} → keeps z ≡ b → (g : Formula.Face) → l ≡ encodeFace g → keeps (sizeOf Faces g) ≡ b
+  kept-as h g e = ap keeps (sym (face-size s g e)) ∙ h
+
+  pub deliver-large : {out : List ℕ} → keeps z ≡ false → Delivers l out (Refused LargeResult) out
+  deliver-large {out} h = record { it = λ g e. limited-by g out (kept-as h g e) }
+
+  pub deliver-short : {out : List ℕ} → keeps z ≡ true → length out < length l → Delivers l out (Refused ShortOutput) out
+  deliver-short {out} h k = record { it = λ g e. limited-by g out (kept-as h g e) ∙ put-by g out (lt-leb (length (encodeFace g)) (length out) (omega (arith, k, ap length e))) }
+
+  pub deliver-done : {out out′ : List ℕ} → keeps z ≡ true → length l ≤ length out → out′ ≡ sets out 0 l → Delivers l out (Form z) out′
+  deliver-done {out} {out′} h k i = record {
+    it = λ g e.
+        limited-by g out (kept-as h g e)
+        ∙ put-by g out (le-leb (length (encodeFace g)) (length out) (omega (arith, k, ap length e)))
+        ∙ ap₂ (λ (y : Size) (o : List ℕ). record { answer = done y; output = o }) (sym (face-size s g e)) (ap (sets out 0) (sym e) ∙ sym i);
+  }
+
+pub face-measured : {l : List ℕ} {m : Measured} → Face l → m ≡ measured Faces l → m ≡ Ill → ⊥
+unfolding measured
+face-measured p e i = go (sym (ap (measuredAs Faces) (ap (readAll Faces) (p .bytes) ∙ readAll-encode Faces (p .face))) ∙ sym e ∙ i)
+  where
+    go : measuredAs Faces (some (p .face)) ≡ Ill → ⊥
+    go k = let q : _≡_ {A = ℕ} 0 1 = cc in omega arith
+
+-- ---- the bytes of a normal form, where there are any
+
+pub kept-whole : {f : List ℕ} {n room : ℕ} → Kept f n → 1024 ≤ room → Whole f n room
+kept-whole k h = record { face = k .face; bytes = k .bytes; nodes = k .nodes; few = k .few; low = k .low; writes = h }
+
+-- What the bytes tell: none, or those of the normal form.
+record Told (o : Option Formula.Face) (x : List ℕ) : Type 0 where
+  face : Formula.Face
+  is : o ≡ some face
+  bytes : x ≡ encodeFace face
+  few : nodesFace face ≤ maxNodes
+
+kept-nodes : (g : Formula.Face) → leb (nodesFace g) maxNodes ≡ false → keeps (sizeOf Faces g) ≡ false
+kept-nodes g e = ap (λ b. b && leb (bound Faces g) maxBound) e
+
+no-bytes : (o : Option Formula.Face) (out : List ℕ) → length (shortNormal o) ≡ 0 → put (limited o) out ≡ record { answer = refused large-result; output = out }
+no-bytes none out e = refl
+no-bytes (some g) out e = go (leb (nodesFace g) maxNodes) refl e
+  where
+    go : (b : Bool) → leb (nodesFace g) maxNodes ≡ b → length (pick b (encodeFace g) []) ≡ 0 → put (limited (some g)) out ≡ record { answer = refused large-result; output = out }
+    go true h k = absurd (omega (arith, k, encode-pos Faces g))
+    go false h k = limited-by g out (kept-nodes g h)
+
+some-bytes : (o : Option Formula.Face) → (length (shortNormal o) ≡ 0 → ⊥) → Told o (shortNormal o)
+some-bytes none e = absurd (e refl)
+some-bytes (some g) e = go (leb (nodesFace g) maxNodes) refl e
+  where
+    go : (b : Bool) → leb (nodesFace g) maxNodes ≡ b → (length (pick b (encodeFace g) []) ≡ 0 → ⊥) → Told (some g) (pick b (encodeFace g) [])
+    go true h k = record { face = g; is = refl; bytes = refl; few = leb-true (nodesFace g) maxNodes h }
+    go false h k = absurd (k refl)
+
+front-of : (x l : List ℕ) → length x ≤ length l → take (length x) (sets l 0 x) ≡ x
+front-of x l h = ap (take (length x)) (sets-eq x l 0 (omega (arith, h))) ∙ take-append-seam x (drop (0 + length x) l)
+
+module _ {f l : List ℕ} {n : ℕ} {l′ : List ℕ} (p : Normals f l n l′) where
+  long : (t : Formula.Face) → f ≡ encodeFace t → length (shortNormal (normal t)) ≡ n
+  long t e = sym (p .it t e .next ∙ zero-add (length (shortNormal (normal t))))
+
+  pub formed-none : {out : List ℕ} → n ≡ 0 → Gives f out (Refused LargeResult) out
+  formed-none {out} h = record { it = λ t e. no-bytes (normal t) out (long t e ∙ h) }
+
+  told : (n ≡ 0 → ⊥) → (t : Formula.Face) → f ≡ encodeFace t → Told (normal t) (shortNormal (normal t))
+  told h t e = some-bytes (normal t) (λ q. h (sym (long t e) ∙ q))
+
+  short : (n ≡ 0 → ⊥) → (t : Formula.Face) → f ≡ encodeFace t → n ≤ 1022
+  short h t e = let s = told h t e in omega (arith, long t e, ap length (s .bytes), form-short (s .face), s .few)
+
+  front : (h : n ≡ 0 → ⊥) → 1024 ≤ length l → (t : Formula.Face) (e : f ≡ encodeFace t) → take n l′ ≡ encodeFace (told h t e .face)
+  front h k t e =
+      ap₂ take (sym (long t e)) (p .it t e .stored) ∙ front-of (shortNormal (normal t)) l (omega (arith, short h t e, long t e, k)) ∙ told h t e .bytes
+
+  pub formed-fits : {m : ℕ} → Kept f m → (n ≡ 0 → ⊥) → 1024 ≤ length l → n ≤ length l′
+  formed-fits k h i = omega (arith, short h (k .face) (k .bytes), i, ap length (p .it (k .face) (k .bytes) .stored), length-sets l 0 (shortNormal (normal (k .face))))
+
+  pub formed-face : {m : ℕ} → Kept f m → (n ≡ 0 → ⊥) → 1024 ≤ length l → Face (take n l′)
+  formed-face k h i = record { face = told h (k .face) (k .bytes) .face; bytes = front h i (k .face) (k .bytes) }
+
+  pub formed-gives : {out : List ℕ} {r : Normalised} {out′ : List ℕ} → (n ≡ 0 → ⊥) → 1024 ≤ length l → Delivers (take n l′) out r out′ → Gives f out r out′
+  formed-gives {out} h i d = record { it = λ t e. let s = told h t e in ap (λ o. put (limited o) out) (s .is) ∙ d .it (s .face) (front h i t e) }
+
+-- ---- the questions before
+
+pub normal-ill : {f out : List ℕ} {m : Measured} → m ≡ measured Faces f → m ≡ Ill → Normalises f out (Refused NotAFormula) out
+unfolding measured
+normal-ill {f} {out} e i = record { equal = go (readAll Faces f) (sym e ∙ i) }
+  where
+    go : (o : Option Formula.Face) → measuredAs Faces o ≡ Ill → put (normalOf o) out ≡ record { answer = refused not-a-formula; output = out }
+    go none k = refl
+    go (some t) k = absurd (let q : _≡_ {A = ℕ} 0 1 = cc in omega arith)
+
+module _ {f : List ℕ} {z : Size} (s : Sized Faces f z) where
+  tree-nodes : nodesFace (s .tree) ≡ z .nodes
+  tree-nodes = ap (λ (y : Size). y .nodes) (s .size)
+
+  tree-bound : bound Faces (s .tree) ≡ z .bound
+  tree-bound = ap (λ (y : Size). y .bound) (s .size)
+
+  asked : (out : List ℕ) {x y : Bool} → leb (nodes Faces (s .tree)) maxNodes ≡ x → leb (bound Faces (s .tree)) maxBound ≡ y
+      → put (normalOf (readAll Faces f)) out ≡ put (pick x (pick y (limited (normal (s .tree))) (refused large-dimension)) (refused too-many-nodes)) out
+  asked out e i = ap (λ o. put (normalOf o) out) (s .whole) ∙ ap₂ (λ (x y : Bool). put (pick x (pick y (limited (normal (s .tree))) (refused large-dimension)) (refused too-many-nodes)) out) e i
+
+  pub normal-many : {out : List ℕ} → 511 < z .nodes → Normalises f out (Refused TooManyNodes) out
+  normal-many {out} h = record { equal = asked out (lt-leb (nodesFace (s .tree)) maxNodes (omega (arith, h, tree-nodes))) refl }
+
+  pub normal-high : {out : List ℕ} → z .nodes ≤ 511 → 255 < z .bound → Normalises f out (Refused LargeDimension) out
+  normal-high {out} h k = record { equal = asked out (le-leb (nodesFace (s .tree)) maxNodes (omega (arith, h, tree-nodes))) (lt-leb (bound Faces (s .tree)) maxBound (omega (arith, k, tree-bound))) }
+
+  pub normal-kept : z .nodes ≤ 511 → z .bound ≤ 255 → Kept f (z .nodes)
+  normal-kept h k = record { face = s .tree; bytes = encode-readAll Faces f (s .tree) (s .whole); nodes = sym tree-nodes; few = h; low = omega (arith, k, tree-bound) }
+
+  pub normal-gives : {out : List ℕ} {r : Normalised} {out′ : List ℕ} → z .nodes ≤ 511 → z .bound ≤ 255 → Gives f out r out′ → Normalises f out r out′
+  normal-gives {out} h k g = record {
+    equal =
+        asked out (le-leb (nodesFace (s .tree)) maxNodes (omega (arith, h, tree-nodes))) (le-leb (bound Faces (s .tree)) maxBound (omega (arith, k, tree-bound)))
+        ∙ g .it (s .tree) (encode-readAll Faces f (s .tree) (s .whole));
+  }
+
+-- ---- the length alone
+
+-- The length of what was put.
+abbrev lengthOf : Formed → Delivered
+lengthOf x = record { answer = map (λ (z : Size). z .len) (x .answer); output = x .output }
+
+lengths : (o : Outcome Formula.Face) (out : List ℕ) → delivered (map (encode Faces) o) out ≡ lengthOf (put o out)
+lengths (refused e) out = refl
+lengths (done g) out = go (leb (length (encodeFace g)) (length out)) (record { answer = done (sizeOf Faces g); output = sets out 0 (encodeFace g) }) (record { answer = refused short-output; output = out })
+  where
+    go : (b : Bool) (x y : Formed) → pick b (lengthOf x) (lengthOf y) ≡ lengthOf (pick b x y)
+    go true x y = refl
+    go false x y = refl
+
+-- What is delivered where the length alone is answered.
+pub normal-length : {f out : List ℕ} {r : Normalised} {out′ : List ℕ} (n : Length) → Normalises f out r out′ → saidLength n ≡ map (λ (z : Size). z .len) (said r) → delivered (map (encode Faces) (normalOf (readAll Faces f))) out ≡ record { answer = saidLength n; output = out′ }
+normal-length {f} {out} {r} {out′} n h e =
+    lengths (normalOf (readAll Faces f)) out
+    ∙ ap lengthOf (h .equal)
+    ∙ ap (λ (x : Outcome ℕ). record { answer = x; output = out′ }) (sym e)
