@@ -1,5 +1,5 @@
 -- Laws of the loops over lists in slices, over any elements.
-use Prim.Native.Nat.{ℕ, zero, suc, _+_, _≤_, _<_, Ordering, Ordering·lt, Ordering·eq, Ordering·gt}
+use Prim.Native.Nat.{ℕ, suc, _+_, _≤_, _<_, Ordering, Ordering·lt, Ordering·eq, Ordering·gt}
 use native.Mathlib.Nat.{add-zero, min-le-left}
 use native.Mathlib.Numerals.{add-one}
 use native.Mathlib.Omega.{arith}
@@ -7,12 +7,12 @@ use mathlib.Core.Path.{_≡_, refl, sym, ap, _∙_, subst}
 use mathlib.Core.Bool.{Bool, true, false, _||_, true≢false, false≢true}
 use mathlib.Core.List.{List, [], _∷_, _++_, append-nil, append-assoc}
 use lib.Dec.{eqb}
-use lib.ListN.{length, getD, set, take, drop, length-append, length-set, length-drop, length-take, take-append-drop, drop-of-length-le}
-use lib.Seq.{length-take-le, take-suc, drop-cons, append-snoc, take-set-le, drop-set-lt, take-set-lt, drop-set-add, take-suc-set, getD-take, getD-drop, take-take}
+use lib.ListN.{length, getD, set, take, drop, length-set, length-drop, length-take, take-append-drop, drop-of-length-le}
+use lib.Seq.{length-take-le, drop-cons, append-snoc, take-set-le, drop-set-lt, take-set-lt, drop-set-add, take-suc-set, getD-take, getD-drop, take-take}
 use Rattle.formula.specs.Formula.{beside}
 use Rattle.formula.specs.Answers.{pick}
 use Rattle.clauses.specs.Normal.{enter, entered, any, minimal, leastOf}
-use Rattle.clauses.specs.Lists.{Stands, Fills, Replaces, carried, Turns, stepOf, firstOf, nextOf, oneUnless}
+use Rattle.clauses.specs.Lists.{Fills, Replaces, carried, Turns, stepOf, firstOf, nextOf, oneUnless}
 
 -- The i-th of n elements from a place on.
 pub part-at : {A : Type 0} (l : List A) (from n i : ℕ) (d : A) → i < n → from + n ≤ length l → drop i (take n (drop from l)) ≡ getD l (from + i) d ∷ drop (i + 1) (take n (drop from l))

@@ -1,5 +1,5 @@
 -- What the clauses of a normal form look like.
-use Prim.Native.Nat.{ℕ, compare, Ordering, Ordering·lt}
+use Prim.Native.Nat.{compare, Ordering, Ordering·lt}
 use mathlib.Core.Path.{_≡_}
 use mathlib.Core.Bool.{true, false}
 use mathlib.Core.List.{List, [], _∷_}

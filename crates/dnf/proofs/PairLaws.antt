@@ -9,7 +9,7 @@ use mathlib.Core.List.{List, [], _∷_, _++_, append-nil, append-assoc}
 use lib.Dec.{leb}
 use borrow.Author.Tests.{le-leb, lt-leb, leb-false}
 use lib.ListN.{length, getD, set, take, drop, length-append, length-set}
-use lib.Seq.{length-take-le, take-set-le, take-suc-set, take-nil, getD-take, take-take}
+use lib.Seq.{length-take-le, take-set-le, take-suc-set, take-nil, take-take}
 use Rattle.formula.specs.Answers.{pick}
 use Rattle.clauses.specs.Normal.{Handling, pairsWith, pairs}
 use Rattle.clauses.specs.Lists.{Adds, oneUnless}

@@ -1,15 +1,15 @@
 -- What is answered of a normal form, question by question.
-use Prim.Native.Nat.{ℕ, zero, suc, _+_, _*_, _≤_, _<_}
+use Prim.Native.Nat.{ℕ, _+_, _≤_, _<_}
 use native.Mathlib.Omega.{arith}
 use native.Mathlib.Nat.{zero-add}
-use mathlib.Core.Path.{_≡_, refl, sym, ap, ap₂, _∙_, subst}
+use mathlib.Core.Path.{_≡_, refl, sym, ap, ap₂, _∙_}
 use mathlib.Core.Bool.{Bool, true, false, _&&_}
 use mathlib.Core.Option.{Option, none, some, Option·some-injective}
-use mathlib.Core.List.{List, [], _∷_, _++_}
+use mathlib.Core.List.{List, []}
 use lib.Dec.{leb}
 use lib.ListN.{length, take, drop}
 use lib.Seq.{sets, sets-eq, length-sets, take-append-seam}
-use borrow.Author.Tests.{le-leb, lt-leb, leb-true, leb-false}
+use borrow.Author.Tests.{le-leb, lt-leb, leb-true}
 use Rattle.formula.specs.Formula
 use Rattle.formula.specs.declared.Sort.the-variants.{Faces}
 use Rattle.formula.specs.declared.Size.{Size}
@@ -25,7 +25,6 @@ use Rattle.text.specs.Reading.{Outcome, refused, done, map}
 use Rattle.text.specs.Answers.{Delivered, delivered, saidLength}
 use Rattle.text.specs.declared.Length.{Length}
 use Rattle.clauses.specs.Normal.{normal}
-use Rattle.forms.specs.Forms.{Wrote}
 use Rattle.forms.proofs.FormLaws.{form-short}
 use Rattle.dnf.specs.Forming.{shortNormal, Whole, Normals}
 use Rattle.normal.specs.declared.Normalised.{Normalised}

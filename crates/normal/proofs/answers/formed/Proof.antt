@@ -1,46 +1,34 @@
 use borrow.Author.Needs.{needs}
 use Rattle.normal.proofs.answers.formed.Statement.{statement}
 use Rattle.normal.proofs.answers.formed.Tie as tie
-use Rattle.normal.proofs.answers.formed.Reads as reads
-use Rattle.normal.proofs.answers.formed.Lts as lts
-use Rattle.dnf.proofs.form.Reads as form-reads
-use Rattle.normal.proofs.answers.deliver.Reads as deliver-reads
 use native.Mathlib.Omega.{arith}
-use mathlib.Core.Path.{refl, sym, ap, _∙_}
-use lib.ListN.{length, replicate, length-replicate}
+use mathlib.Core.Path.{sym}
+use lib.ListN.{length-replicate}
 use Rattle.normal.proofs.AnswerLaws.{kept-whole, formed-none, formed-fits, formed-face, formed-gives}
 use Prim.Native.Nat.{ℕ}
 use lib.Seq.{length-take-le}
 
--- src/answers.rt:37:33
 slice-aggregate-form : tie.Need-slice-aggregate-form
 slice-aggregate-form c = search needs
 
--- src/answers.rt:37:9
 form-requires : tie.Need-form-requires
 form-requires c κs = kept-whole (c .before .before .before .pre) (omega (arith, length-replicate {A = ℕ} 1024 0))
 
--- src/answers.rt:39:9
 returns : tie.Need-returns
 returns c = formed-none (c .before .before .form2 .ensures) (c .if1 .taken)
 
--- src/answers.rt:41:13
 array-share-prefix-form : tie.Need-array-share-prefix-form
 array-share-prefix-form c = formed-fits (c .before .before .form2 .ensures) (c .before .before .before .before .before .before .pre) (c .if1 .left) (omega (arith, length-replicate {A = ℕ} 1024 0))
 
--- src/answers.rt:41:13
 slice-aggregate-deliver : tie.Need-slice-aggregate-deliver
 slice-aggregate-deliver c = sym (length-take-le (c .before .before .before .form2 .result) _ (formed-fits (c .before .before .before .form2 .ensures) (c .before .before .before .before .before .before .before .pre) (c .before .if1 .left) (omega (arith, length-replicate {A = ℕ} 1024 0))))
 
--- src/answers.rt:41:5
 deliver-requires : tie.Need-deliver-requires
 deliver-requires c κs = formed-face (c .before .before .before .before .form2 .ensures) (c .before .before .before .before .before .before .before .before .pre) (c .before .before .if1 .left) (omega (arith, length-replicate {A = ℕ} 1024 0))
 
--- src/answers.rt:32:1
 same-length : tie.Need-same-length
 same-length c = search needs
 
--- src/answers.rt:32:1
 returns-2 : tie.Need-returns-2
 returns-2 c = formed-gives (c .before .before .before .before .before .before .before .form2 .ensures) (c .before .before .before .before .before .if1 .left) (omega (arith, length-replicate {A = ℕ} 1024 0)) (c .before .before .deliver .ensures)
 

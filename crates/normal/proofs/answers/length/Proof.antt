@@ -1,26 +1,20 @@
 use borrow.Author.Needs.{needs}
 use Rattle.normal.proofs.answers.length.Statement.{statement}
 use Rattle.normal.proofs.answers.length.Tie as tie
-use Rattle.normal.proofs.answers.length.Reads as reads
-use Rattle.normal.proofs.answers.length.Lts as lts
-use mathlib.Core.Path.{refl, sym, ap, _∙_}
+use mathlib.Core.Path.{sym, ap}
 use Rattle.formula.specs.declared.Size.{Size}
 use Rattle.text.specs.Reading.{map}
 use Rattle.normal.specs.Answers.{said}
 
--- src/answers.rt:69:26
 enum-known-a : tie.Need-enum-known-a
 enum-known-a c = search needs
 
--- src/answers.rt:70:29
 enum-known-a-2 : tie.Need-enum-known-a-2
 enum-known-a-2 c = search needs
 
--- src/answers.rt:65:1
 returns : tie.Need-returns
 returns c = sym (ap (λ a. map (λ (z : Size). z .len) (said a)) (c .before .a .given .1))
 
--- src/answers.rt:65:1
 returns-2 : tie.Need-returns-2
 returns-2 c = sym (ap (λ a. map (λ (z : Size). z .len) (said a)) (c .before .a2 .given .1))
 
