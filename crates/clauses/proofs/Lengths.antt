@@ -43,7 +43,7 @@ leaves-some (for a b) = omega (arith, leaves-some a)
 -- Nothing that makes a list makes it longer. --------------------------------------
 
 module _ {A : Type 0} where
-  enter-length : (order : A → A → Ordering) (x : A) (l : List A) → length (enter order x l) ≤ suc (length l)
+  pub enter-length : (order : A → A → Ordering) (x : A) (l : List A) → length (enter order x l) ≤ suc (length l)
   unfolding enter
   enter-length order x [] = omega arith
   enter-length order x (y ∷ l) = go (order x y) (enter-length order x l)
@@ -53,7 +53,7 @@ module _ {A : Type 0} where
       go Ordering·eq h = omega arith
       go Ordering·gt h = omega arith
 
-  entered-length : (order : A → A → Ordering) (l m : List A) → length (entered order l m) ≤ length l + length m
+  pub entered-length : (order : A → A → Ordering) (l m : List A) → length (entered order l m) ≤ length l + length m
   unfolding entered
   entered-length order l [] = omega arith
   entered-length order l (x ∷ m) = omega (arith, entered-length order (enter order x l) m, enter-length order x l)

@@ -12,6 +12,7 @@ use lib.Seq.{length-take-le, drop-cons, append-snoc, take-set-le, drop-set-lt, t
 use Rattle.formula.specs.Formula.{beside}
 use Rattle.formula.specs.Answers.{pick}
 use Rattle.clauses.specs.Normal.{enter, entered, any, minimal, leastOf}
+use Rattle.clauses.proofs.Lengths.{enter-length, entered-length}
 use Rattle.clauses.specs.Lists.{Fills, Replaces, carried, Turns, stepOf, firstOf, nextOf, oneUnless}
 
 -- The i-th of n elements from a place on.
@@ -114,16 +115,6 @@ inserting-end {order = order} {c} {l₀} {l} {n} {held} {placed} {j} s h k =
 
 -- ---- a list sorted into another slice
 
-placed-length : {A : Type 0} (x y : A) (l m : List A) (o : Ordering) → length m ≤ length l + 1 → length (beside o (x ∷ y ∷ l) (y ∷ l) (y ∷ m)) ≤ length (y ∷ l) + 1
-placed-length x y l m Ordering·lt h = omega arith
-placed-length x y l m Ordering·eq h = omega arith
-placed-length x y l m Ordering·gt h = omega (arith, h)
-
-pub enter-length : {A : Type 0} (order : A → A → Ordering) (x : A) (l : List A) → length (enter order x l) ≤ length l + 1
-unfolding enter
-enter-length order x [] = omega arith
-enter-length order x (y ∷ l) = placed-length x y l (enter order x l) (order x y) (enter-length order x l)
-
 pub record Sorting {A : Type 0} (order : A → A → Ordering) (xs s₀ s : List A) (k i n : ℕ) : Type 0 where
   pub upto : i ≤ n
   pub few : k ≤ i
@@ -150,11 +141,6 @@ sorting-end {order = order} {xs} {s₀} {s} {k} t e m =
     let fits : k ≤ length s = omega (arith, t .few, t .upto, t .same, m) in
     record { stands = record { many = sym (ap length whole ∙ length-take-le k s fits); room = omega (arith, fits); here = sym whole }; same = t .same }
 
-pub entered-length : {A : Type 0} (order : A → A → Ordering) (l m : List A) → length (entered order l m) ≤ length l + length m
-unfolding entered
-entered-length order l [] = omega arith
-entered-length order l (x ∷ m) = omega (arith, entered-length order (enter order x l) m, enter-length order x l)
-
 pub sorted-few : {A : Type 0} (order : A → A → Ordering) (n : ℕ) (xs : List A) {s₀ s : List A} {k : ℕ} → Fills (entered order [] (take n xs)) s₀ k s → k ≤ n
 sorted-few order n xs f = omega (arith, f .stands .many, entered-length order [] (take n xs), length-take n xs, min-le-left n (length xs))
 
@@ -170,10 +156,14 @@ pub record Keeping {A : Type 0} (below : A → A → Bool) (xs : List A) (to : �
 pub keeping-start : {A : Type 0} {below : A → A → Bool} {xs : List A} {to : ℕ} {l : List A} {n : ℕ} → Keeping below xs to l l 0 0 n
 keeping-start = record { upto = omega arith; few = omega arith; same = refl; before = refl; left = refl }
 
--- one element written behind m others, whether it counts or not
+-- An element written at a place, whether it counts or not.
+pub written-behind : {A : Type 0} (l : List A) (at : ℕ) (x : A) (b : Bool) → at < length l → take (at + oneUnless b) (set l at x) ≡ take at l ++ pick b [] (x ∷ [])
+written-behind l at x true h = ap (λ y. take y (set l at x)) (add-zero at) ∙ take-set-le at l at x (omega arith) ∙ sym (append-nil (take at l))
+written-behind l at x false h = ap (λ y. take y (set l at x)) (add-one at) ∙ take-suc-set l at x h
+
+-- The same behind m others of a list that stands at a place.
 written : {A : Type 0} (l : List A) (to m : ℕ) (x : A) (b : Bool) → to + m < length l → take (m + oneUnless b) (drop to (set l (to + m) x)) ≡ take m (drop to l) ++ pick b [] (x ∷ [])
-written l to m x true h = ap (λ y. take y (drop to (set l (to + m) x))) (add-zero m) ∙ ap (take m) (drop-set-add to l m x) ∙ take-set-le m (drop to l) m x (omega arith) ∙ sym (append-nil (take m (drop to l)))
-written l to m x false h = ap (λ y. take y (drop to (set l (to + m) x))) (add-one m) ∙ ap (take (suc m)) (drop-set-add to l m x) ∙ take-suc-set (drop to l) m x (omega (arith, h, length-drop to l))
+written l to m x b h = ap (take (m + oneUnless b)) (drop-set-add to l m x) ∙ written-behind (drop to l) m x b (omega (arith, h, length-drop to l))
 
 pub picked : {A : Type 0} (b : Bool) (x : A) (l : List A) → pick b l (x ∷ l) ≡ pick b [] (x ∷ []) ++ l
 picked true x l = refl

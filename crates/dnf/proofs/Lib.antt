@@ -6,6 +6,7 @@ pub mod JoinLaws
 pub mod Lend
 pub mod NormalLaws
 pub mod PairLaws
+pub mod Past
 pub mod Plan
 pub mod Rows
 pub mod Said

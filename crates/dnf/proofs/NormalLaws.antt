@@ -19,9 +19,9 @@ use Rattle.clauses.proofs.Carrying.{Carries, AllLiterals, clauses-carried}
 use Rattle.clauses.proofs.Literals.{dnf-literals}
 use Rattle.clauses.proofs.WordLaws.{single-bits}
 use Rattle.clauses.proofs.Selecting.{words-carry, select-single, select-none, bits-none}
-use Rattle.literals.specs.Numbers.{blanksFrom, blanks, ranked as rankedNumbers, position}
+use Rattle.literals.specs.Numbers.{blanksFrom, blanks, position}
 use Rattle.literals.specs.Collecting.{Asks, Collects}
-use Rattle.literals.proofs.Ranking.{Ranks, ranking, numbers-small, ranking-asks, ranking-made}
+use Rattle.literals.proofs.Ranking.{Ranks, ranking, numbers-small, ranking-asks, ranking-made, ranked as rankedNumbers}
 use Rattle.forms.proofs.FormLaws.{wrote-as}
 use Rattle.dnf.specs.Finding.{ranked}
 use Rattle.dnf.specs.Forming.{shortForm, Fielded, Shapes, Forms, Whole, shortNormal, Normals}

@@ -13,7 +13,7 @@ use lib.Seq.{length-take-le, take-set-le, take-suc-set, take-nil, take-take}
 use Rattle.formula.specs.Answers.{pick}
 use Rattle.clauses.specs.Normal.{Handling, pairsWith, pairs}
 use Rattle.clauses.specs.Lists.{Adds, oneUnless}
-use Rattle.clauses.proofs.ListLaws.{picked, part-at}
+use Rattle.clauses.proofs.ListLaws.{picked, part-at, written-behind}
 
 -- A list that grows in a slice: what stands behind n others at a place, and what is still to come.
 pub record Growing {A : Type 0} (all : List A) (to n : ℕ) (l₀ l : List A) (k : ℕ) (rest : List A) : Type 0 where
@@ -74,11 +74,6 @@ pairOf H c d = pick (H .against c d) [] (H .joined c d ∷ [])
 pub pair-cons : {A : Type 0} (H : Handling A) (c d : A) (y : List A) → pairsWith H c (d ∷ y) ≡ pairOf H c d ++ pairsWith H c y
 unfolding pairsWith
 pair-cons H c d y = picked (H .against c d) (H .joined c d) (pairsWith H c y)
-
--- An element written behind k others, whether it counts or not.
-pub written-behind : {A : Type 0} (l : List A) (at : ℕ) (x : A) (b : Bool) → at < length l → take (at + oneUnless b) (set l at x) ≡ take at l ++ pick b [] (x ∷ [])
-written-behind l at x true h = ap (λ y. take y (set l at x)) (add-zero at) ∙ take-set-le at l at x (omega arith) ∙ sym (append-nil (take at l))
-written-behind l at x false h = ap (λ y. take y (set l at x)) (add-one at) ∙ take-suc-set l at x h
 
 one-long : {A : Type 0} (b : Bool) (x : A) → length (pick b [] (x ∷ [])) ≡ oneUnless b
 one-long true x = refl

@@ -26,7 +26,7 @@ use borrow.Rule.Slice.Relend.{mslice-owed, msptr, ssptr}
 use borrow.Rule.Slice.Reshare.{mslice-owedS}
 use Rattle.clauses.proofs.Clause as T
 use Rattle.clauses.proofs.Clause.Laws as LW
-use Rattle.dnf.specs.Clauses.{past}
+use Rattle.dnf.proofs.Past.{past}
 use Rattle.dnf.proofs.Plan as P
 use Rattle.dnf.proofs.Item.{Elem, yields-item}
 use Rattle.dnf.proofs.Lend.{Shown}

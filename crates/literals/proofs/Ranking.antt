@@ -14,13 +14,17 @@ use Rattle.formula.proofs.Compare.{compare-lt}
 use Rattle.clauses.specs.Normal.{numbered, entered}
 use Rattle.clauses.specs.Shape.{Ascending, empty, one, more}
 use Rattle.clauses.proofs.Carrying.{AllLiterals, all-literals}
+use Rattle.clauses.proofs.Lengths.{entered-length}
 use Rattle.clauses.proofs.Members.{_∈_, entered-has, entered-second}
 use Rattle.clauses.proofs.Orders.{compare-orders}
 use Rattle.clauses.proofs.Shaping.{entered-ascending}
-use Rattle.literals.specs.Numbers.{numbersOf, over, blanksFrom, blanks, ranked, position}
+use Rattle.literals.specs.Numbers.{numbersOf, over, blanksFrom, blanks, position}
 use Rattle.literals.specs.Collecting.{Asks, Collects}
-use Rattle.literals.proofs.CollectLaws.{entered-length}
 use Rattle.literals.proofs.RowLaws.{position-here, position-behind}
+
+-- The numbers of the literals of a face, ascending and each once, with such numbers behind them.
+unfoldable pub ranked : Face → List ℕ
+ranked t = over (entered compare [] (numbersOf t)) blanks
 
 -- ---- the numbers of a face
 

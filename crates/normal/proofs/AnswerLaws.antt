@@ -30,7 +30,7 @@ use Rattle.dnf.specs.Forming.{shortNormal, Whole, Normals}
 use Rattle.normal.specs.declared.Normalised.{Normalised}
 use Rattle.normal.specs.declared.Normalised.the-variants.{Form, Refused}
 use Rattle.normal.specs.Answers.{limited, normalOf, Formed, put, said, Normalises}
-use Rattle.normal.specs.Delivering.{Face, Delivers, Kept, Gives}
+use Rattle.normal.specs.Delivering.{IsFace, Delivers, Gives}
 
 -- ---- a face that was made, delivered
 
@@ -61,7 +61,7 @@ module _ {l : List ℕ} {z : Size} (s : Sized Faces l z) where
         ∙ ap₂ (λ (y : Size) (o : List ℕ). record { answer = done y; output = o }) (sym (face-size s g e)) (ap (sets out 0) (sym e) ∙ sym i);
   }
 
-pub face-measured : {l : List ℕ} {m : Measured} → Face l → m ≡ measured Faces l → m ≡ Ill → ⊥
+pub face-measured : {l : List ℕ} {m : Measured} → IsFace l → m ≡ measured Faces l → m ≡ Ill → ⊥
 unfolding measured
 face-measured p e i = go (sym (ap (measuredAs Faces) (ap (readAll Faces) (p .bytes) ∙ readAll-encode Faces (p .face))) ∙ sym e ∙ i)
   where
@@ -70,8 +70,8 @@ face-measured p e i = go (sym (ap (measuredAs Faces) (ap (readAll Faces) (p .byt
 
 -- ---- the bytes of a normal form, where there are any
 
-pub kept-whole : {f : List ℕ} {n room : ℕ} → Kept f n → 1024 ≤ room → Whole f n room
-kept-whole k h = record { face = k .face; bytes = k .bytes; nodes = k .nodes; few = k .few; low = k .low; writes = h }
+pub whole-room : {f : List ℕ} {n small room : ℕ} → Whole f n small → 1024 ≤ room → Whole f n room
+whole-room w h = record { face = w .face; bytes = w .bytes; nodes = w .nodes; few = w .few; low = w .low; writes = h }
 
 -- What the bytes tell: none, or those of the normal form.
 record Told (o : Option Formula.Face) (x : List ℕ) : Type 0 where
@@ -119,10 +119,10 @@ module _ {f l : List ℕ} {n : ℕ} {l′ : List ℕ} (p : Normals f l n l′) w
   front h k t e =
       ap₂ take (sym (long t e)) (p .it t e .stored) ∙ front-of (shortNormal (normal t)) l (omega (arith, short h t e, long t e, k)) ∙ told h t e .bytes
 
-  pub formed-fits : {m : ℕ} → Kept f m → (n ≡ 0 → ⊥) → 1024 ≤ length l → n ≤ length l′
+  pub formed-fits : {m room : ℕ} → Whole f m room → (n ≡ 0 → ⊥) → 1024 ≤ length l → n ≤ length l′
   formed-fits k h i = omega (arith, short h (k .face) (k .bytes), i, ap length (p .it (k .face) (k .bytes) .stored), length-sets l 0 (shortNormal (normal (k .face))))
 
-  pub formed-face : {m : ℕ} → Kept f m → (n ≡ 0 → ⊥) → 1024 ≤ length l → Face (take n l′)
+  pub formed-face : {m room : ℕ} → Whole f m room → (n ≡ 0 → ⊥) → 1024 ≤ length l → IsFace (take n l′)
   formed-face k h i = record { face = told h (k .face) (k .bytes) .face; bytes = front h i (k .face) (k .bytes) }
 
   pub formed-gives : {out : List ℕ} {r : Normalised} {out′ : List ℕ} → (n ≡ 0 → ⊥) → 1024 ≤ length l → Delivers (take n l′) out r out′ → Gives f out r out′
@@ -155,8 +155,8 @@ module _ {f : List ℕ} {z : Size} (s : Sized Faces f z) where
   pub normal-high : {out : List ℕ} → z .nodes ≤ 511 → 255 < z .bound → Normalises f out (Refused LargeDimension) out
   normal-high {out} h k = record { equal = asked out (le-leb (nodesFace (s .tree)) maxNodes (omega (arith, h, tree-nodes))) (lt-leb (bound Faces (s .tree)) maxBound (omega (arith, k, tree-bound))) }
 
-  pub normal-kept : z .nodes ≤ 511 → z .bound ≤ 255 → Kept f (z .nodes)
-  normal-kept h k = record { face = s .tree; bytes = encode-readAll Faces f (s .tree) (s .whole); nodes = sym tree-nodes; few = h; low = omega (arith, k, tree-bound) }
+  pub normal-whole : z .nodes ≤ 511 → z .bound ≤ 255 → Whole f (z .nodes) 1024
+  normal-whole h k = record { face = s .tree; bytes = encode-readAll Faces f (s .tree) (s .whole); nodes = sym tree-nodes; few = h; low = omega (arith, k, tree-bound); writes = omega arith }
 
   pub normal-gives : {out : List ℕ} {r : Normalised} {out′ : List ℕ} → z .nodes ≤ 511 → z .bound ≤ 255 → Gives f out r out′ → Normalises f out r out′
   normal-gives {out} h k g = record {

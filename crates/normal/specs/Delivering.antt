@@ -1,30 +1,22 @@
 -- These definitions serve the contracts of private functions.
-use Prim.Native.Nat.{ℕ, _≤_}
+use Prim.Native.Nat.{ℕ}
 use mathlib.Core.Path.{_≡_}
 use mathlib.Core.Option.{some}
 use mathlib.Core.List.{List}
 use Rattle.formula.specs.Formula
-use Rattle.formula.specs.Bytes.{encodeFace, nodesFace, boundFace, maxNodes, maxBound}
+use Rattle.formula.specs.Bytes.{encodeFace}
 use Rattle.clauses.specs.Normal.{normal}
 use Rattle.normal.specs.declared.Normalised.{Normalised}
 use Rattle.normal.specs.Answers.{limited, put, said}
 
 -- The bytes are a face.
-pub record Face (l : List ℕ) : Type 0 where
+pub record IsFace (l : List ℕ) : Type 0 where
   pub face : Formula.Face
   pub bytes : l ≡ encodeFace face
 
 -- That face was delivered, where it keeps the limits.
 pub record Delivers (l out : List ℕ) (r : Normalised) (out′ : List ℕ) : Type 0 where
   pub it : (g : Formula.Face) → l ≡ encodeFace g → put (limited (some g)) out ≡ record { answer = said r; output = out′ }
-
--- The bytes are a face of n nodes within the limits.
-pub record Kept (l : List ℕ) (n : ℕ) : Type 0 where
-  pub face : Formula.Face
-  pub bytes : l ≡ encodeFace face
-  pub nodes : n ≡ nodesFace face
-  pub few : n ≤ maxNodes
-  pub low : boundFace face ≤ maxBound
 
 -- Its normal form was delivered.
 pub record Gives (l out : List ℕ) (r : Normalised) (out′ : List ℕ) : Type 0 where

@@ -8,11 +8,12 @@ ghost use mathlib.Core.Path.{_≡_};
 ghost use Rattle.text.specs.Reading.{map};
 ghost use Rattle.text.specs.Answers.{saidLength};
 ghost use Rattle.normal.specs.Answers.{said, Normalises};
-ghost use Rattle.normal.specs.Delivering.{Face, Delivers, Kept, Gives};
+ghost use Rattle.normal.specs.Delivering.{IsFace, Delivers, Gives};
+ghost use Rattle.dnf.specs.Forming.{Whole};
 
 // The face whose bytes `form` are, in front of the output: questions 5 and 6.
 fn deliver(form: &[u8], out: &mut [u8]) -> Normalised
-    requires { ⌜ Face (now form) ⌝ }
+    requires { ⌜ IsFace (now form) ⌝ }
     ensures { λ r. ⌜ Delivers (now (form .entry)) (now (out .entry)) r (now (out .exit)) ⌝ }
 {
     match formula::measure(Sort::Faces, form) {
@@ -32,7 +33,7 @@ fn deliver(form: &[u8], out: &mut [u8]) -> Normalised
 
 // The normal form of a face of so many nodes within the limits.
 fn formed(f: &[u8], nodes: usize, out: &mut [u8]) -> Normalised
-    requires { ⌜ Kept (now f) nodes ⌝ }
+    requires { ⌜ Whole (now f) nodes 1024 ⌝ }
     ensures { λ r. ⌜ Gives (now (f .entry)) (now (out .entry)) r (now (out .exit)) ⌝ }
 {
     let mut form = [0u8; 1024];

@@ -4,7 +4,7 @@ use Rattle.normal.proofs.answers.formed.Tie as tie
 use native.Mathlib.Omega.{arith}
 use mathlib.Core.Path.{sym}
 use lib.ListN.{length-replicate}
-use Rattle.normal.proofs.AnswerLaws.{kept-whole, formed-none, formed-fits, formed-face, formed-gives}
+use Rattle.normal.proofs.AnswerLaws.{whole-room, formed-none, formed-fits, formed-face, formed-gives}
 use Prim.Native.Nat.{ℕ}
 use lib.Seq.{length-take-le}
 
@@ -12,7 +12,7 @@ slice-aggregate-form : tie.Need-slice-aggregate-form
 slice-aggregate-form c = search needs
 
 form-requires : tie.Need-form-requires
-form-requires c κs = kept-whole (c .before .before .before .pre) (omega (arith, length-replicate {A = ℕ} 1024 0))
+form-requires c κs = whole-room (c .before .before .before .pre) (omega (arith, length-replicate {A = ℕ} 1024 0))
 
 returns : tie.Need-returns
 returns c = formed-none (c .before .before .form2 .ensures) (c .if1 .taken)

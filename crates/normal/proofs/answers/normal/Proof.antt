@@ -3,7 +3,7 @@ use Rattle.normal.proofs.answers.normal.Statement.{statement}
 use Rattle.normal.proofs.answers.normal.Tie as tie
 use Rattle.formula.specs.declared.Sort.the-variants.{Faces}
 use Rattle.formula.proofs.Measuring.{sized-by}
-use Rattle.normal.proofs.AnswerLaws.{normal-ill, normal-many, normal-high, normal-kept, normal-gives}
+use Rattle.normal.proofs.AnswerLaws.{normal-ill, normal-many, normal-high, normal-whole, normal-gives}
 
 measure-requires : tie.Need-measure-requires
 measure-requires c κs = search needs
@@ -18,7 +18,7 @@ returns-2 : tie.Need-returns-2
 returns-2 c = normal-high (sized-by Faces (c .before .before .before .before .before .before .before .before .before .before .args .f .now) (c .before .before .before .before .before .before .before .measure .ensures) (c .before .before .before .before .before .z .given .1)) (c .before .before .if1 .left) (c .if2 .taken)
 
 formed-requires : tie.Need-formed-requires
-formed-requires c κs = normal-kept (sized-by Faces (c .before .before .before .before .before .before .before .before .before .before .before .args .f .now) (c .before .before .before .before .before .before .before .before .measure .ensures) (c .before .before .before .before .before .before .z .given .1)) (c .before .before .before .if1 .left) (c .before .if2 .left)
+formed-requires c κs = normal-whole (sized-by Faces (c .before .before .before .before .before .before .before .before .before .before .before .args .f .now) (c .before .before .before .before .before .before .before .before .measure .ensures) (c .before .before .before .before .before .before .z .given .1)) (c .before .before .before .if1 .left) (c .before .if2 .left)
 
 enum-told : tie.Need-enum-told
 enum-told c = search needs

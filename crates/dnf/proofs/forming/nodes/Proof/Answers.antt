@@ -9,7 +9,7 @@ use Rattle.clauses.specs.declared.Clause.{Clause}
 use Rattle.clauses.proofs.ListLaws.{front-at, front-end}
 use Rattle.forms.specs.Forms.{weightOf, formNodes}
 use Rattle.forms.proofs.FormLaws.{weight-few, Summing, summing-start, summing-next, summing-end, summing-none}
-use Rattle.dnf.specs.Clauses.{past}
+use Rattle.dnf.proofs.Past.{past}
 use Rattle.dnf.proofs.Said.{nodes-pre, nodes-post, weight-post}
 
 -- What holds at each turn, of what the loop begins with and of what the turns change; and what falls.

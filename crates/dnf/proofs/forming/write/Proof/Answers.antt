@@ -9,7 +9,7 @@ use Rattle.clauses.specs.declared.Clause.{Clause}
 use Rattle.clauses.proofs.ListLaws.{front-at, front-end}
 use Rattle.forms.specs.Forms.{clauseForm}
 use Rattle.forms.proofs.FormLaws.{form-none, form-bytes, form-room, wrote-none, wrote-next, wrote-length, wrote-as, Printing, printing-start, printing-room, printing-next, printing-end, printing-length}
-use Rattle.dnf.specs.Clauses.{past}
+use Rattle.dnf.proofs.Past.{past}
 use Rattle.dnf.specs.Forming.{formBytes}
 use Rattle.dnf.proofs.FormLaws.{all-at}
 use Rattle.dnf.proofs.Said.{write-pre, write-post, put-times-pre, put-times-post, put-clause-pre, put-clause-post}

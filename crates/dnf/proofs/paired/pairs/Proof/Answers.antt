@@ -7,7 +7,7 @@ use lib.ListN.{length, getD, take, drop}
 use native.Mathlib.Omega.{arith}
 use borrow.Author.Tests.{ltb-true, ltb-false}
 use Rattle.clauses.specs.declared.Clause.{Clause}
-use Rattle.dnf.specs.Clauses.{past}
+use Rattle.dnf.proofs.Past.{past}
 use Rattle.clauses.specs.Normal.{pairs as pairsOf}
 use Rattle.clauses.specs.Words.{words, facing}
 use Rattle.clauses.proofs.WordLaws.{opposes-meet}

@@ -7,7 +7,7 @@ use lib.ListN.{length, set, getD, take, drop, length-set}
 use native.Mathlib.Omega.{arith}
 use borrow.Author.Tests.{ltb-true, ltb-false}
 use Rattle.clauses.specs.declared.Clause.{Clause}
-use Rattle.dnf.specs.Clauses.{past}
+use Rattle.dnf.proofs.Past.{past}
 use Rattle.clauses.specs.Normal.{pairsWith}
 use Rattle.clauses.specs.Words.{facing}
 use Rattle.clauses.proofs.ListLaws.{part-end, unless-few}
