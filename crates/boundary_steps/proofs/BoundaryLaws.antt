@@ -21,7 +21,7 @@ use Rattle.calculus.specs.Emit.{Program, emit}
 use Rattle.calculus.specs.Calls.{bounds, emitBoundary}
 use Rattle.calculus.proofs.Growing.{Limited}
 use Rattle.steps.specs.declared.Ran.{Ran}
-use Rattle.steps.specs.Running.{Runs, Emits}
+use Rattle.steps.specs.Running.{Book, Runs, Emits}
 use Rattle.steps.specs.Trees.{Is, Known}
 use Rattle.boundary_steps.specs.Programs.{Sides, boundaryKind}
 use Rattle.steps.proofs.RunLaws.{emits-by}
@@ -51,7 +51,7 @@ alone-laws : EachNode Intervals (AtLit Intervals Alone)
 unfolding emitBoundary boundary Alone
 alone-laws = record { at0 = tt; at1 = tt; at2 = λ n. (refl, Rules.boundary-dim); at3 = tt; at4 = tt; at5 = tt; none = λ b. tt }
 
-pub lit-runs : {l l′ f x : List ℕ} {c : Ran} {i k z n : ℕ} {q : Place} (t : Interval) → View Intervals f t (Lit q n) → Limited (bounds t) → operandBytes (bounds t) ≡ x
+pub lit-runs : {l l′ : Book} {f x : List ℕ} {c : Ran} {i k z n : ℕ} {q : Place} (t : Interval) → View Intervals f t (Lit q n) → Limited (bounds t) → operandBytes (bounds t) ≡ x
     → Emits l (boundaryKind (getD f 0 0)) (i ∷ k ∷ z ∷ []) x c l′ → Runs l (emitBoundary t) c l′
 unfolding Alone
 lit-runs {l} {l′} {x = x} {c} {i} {k} {z} t (a-lit b n g e j) m o h =

@@ -8,8 +8,8 @@ ghost use mathlib.Core.List.{[], _∷_, _++_};
 ghost use Prim.Native.Nat.{_+_, _≤_, _<_};
 ghost use lib.ListN.{length, getD};
 ghost use Rattle.calculus.specs.Calls.{emitBoundary};
-ghost use Rattle.ledger.specs.Ledger.{Led};
-ghost use Rattle.steps.specs.Running.{Runs, Emits};
+ghost use Rattle.index.specs.Index.{Indexed};
+ghost use Rattle.steps.specs.Running.{book, Runs, Emits};
 ghost use Rattle.formula.specs.Answers.{treeOf};
 ghost use Rattle.steps.specs.Trees.{Known};
 ghost use Rattle.boundary_steps.specs.Programs.{Sides, boundaryKind};
@@ -22,40 +22,49 @@ fn boundary_kind(b: u8) -> usize
 }
 
 // The step of the whole expression, from those of its parts.
-fn boundary_whole(l: &mut [u8], r: &[u8], zero: &[u8], one: &[u8], i: usize, k: usize) -> Ran
-    requires { ⌜ Led (now l) × (0 < length (now r)) × (length (now r) ≤ 1022) × (length (now zero) ≤ 1022) × (length (now one) ≤ 1022) ⌝ }
-    ensures { λ x. ⌜ Emits (now (l .entry)) (boundaryKind (getD (now (r .entry)) 0 0)) (i ∷ k ∷ 0 ∷ []) (now (r .entry) ++ (now (zero .entry) ++ now (one .entry))) x (now (l .exit)) ⌝ }
+fn boundary_whole(
+    l: &mut [u8],
+    ix: &mut [u32],
+    r: &[u8],
+    zero: &[u8],
+    one: &[u8],
+    i: usize,
+    k: usize,
+) -> Ran
+    requires { ⌜ Indexed (now l) (now ix) × (0 < length (now r)) × (length (now r) ≤ 1022) × (length (now zero) ≤ 1022) × (length (now one) ≤ 1022) ⌝ }
+    ensures { λ x. ⌜ Emits (book (now (l .entry)) (now (ix .entry))) (boundaryKind (getD (now (r .entry)) 0 0)) (i ∷ k ∷ 0 ∷ []) (now (r .entry) ++ (now (zero .entry) ++ now (one .entry))) x (book (now (l .exit)) (now (ix .exit))) ⌝ }
 {
     let kind = boundary_kind(r[0]);
-    steps::emit3(l, kind, [i, k, 0], r, zero, one)
+    steps::emit3(l, ix, kind, [i, k, 0], r, zero, one)
 }
 
 // The steps of an expression and its parts; under neg the two faces change places.
-pub fn boundary(l: &mut [u8], r: &[u8], zero: &[u8], one: &[u8]) -> Ran
-    requires { ⌜ Led (now l) × Known Sort.Intervals (now r) × Sides (now r) (now zero) (now one) ⌝ }
-    ensures { λ x. ⌜ Runs (now (l .entry)) (emitBoundary (treeOf Sort.Intervals (now (r .entry)))) x (now (l .exit)) ⌝ }
+pub fn boundary(l: &mut [u8], ix: &mut [u32], r: &[u8], zero: &[u8], one: &[u8]) -> Ran
+    requires { ⌜ Indexed (now l) (now ix) × Known Sort.Intervals (now r) × Sides (now r) (now zero) (now one) ⌝ }
+    ensures { λ x. ⌜ Runs (book (now (l .entry)) (now (ix .entry))) (emitBoundary (treeOf Sort.Intervals (now (r .entry)))) x (book (now (l .exit)) (now (ix .exit))) ⌝ }
 {
     let first = Place { at: 0, pending: 1 };
     match first.step(Sort::Intervals, r) {
-        Step::Leaf(_) => boundary_whole(l, r, zero, one, 0, 0),
-        Step::Lit(_, _) => boundary_whole(l, r, zero, one, 0, 0),
+        Step::Leaf(_) => boundary_whole(l, ix, r, zero, one, 0, 0),
+        Step::Lit(_, _) => boundary_whole(l, ix, r, zero, one, 0, 0),
         Step::One(_) => {
-            let a = boundary(l, &r[1..], one, zero);
+            let a = boundary(l, ix, &r[1..], one, zero);
             if !steps::is_done(a) {
                 return a;
             }
-            boundary_whole(l, r, zero, one, steps::step_of(a), 0)
+            boundary_whole(l, ix, r, zero, one, steps::step_of(a), 0)
         }
         Step::Two(_) => {
             let x = formula::formula_at(Sort::Intervals, r, 1);
             let x0 = formula::formula_at(Sort::Faces, zero, 1);
             let x1 = formula::formula_at(Sort::Faces, one, 1);
-            let a = boundary(l, x, x0, x1);
+            let a = boundary(l, ix, x, x0, x1);
             if !steps::is_done(a) {
                 return a;
             }
             let b = boundary(
                 l,
+                ix,
                 steps::behind(r, x.len()),
                 steps::behind(zero, x0.len()),
                 steps::behind(one, x1.len()),
@@ -63,7 +72,7 @@ pub fn boundary(l: &mut [u8], r: &[u8], zero: &[u8], one: &[u8]) -> Ran
             if !steps::is_done(b) {
                 return b;
             }
-            boundary_whole(l, r, zero, one, steps::step_of(a), steps::step_of(b))
+            boundary_whole(l, ix, r, zero, one, steps::step_of(a), steps::step_of(b))
         }
         Step::Stuck => Ran::Full,
     }

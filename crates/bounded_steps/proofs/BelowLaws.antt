@@ -20,7 +20,7 @@ use Rattle.calculus.specs.Emit.{Program, emit, _>>=_}
 use Rattle.calculus.specs.Calls.{less, emitComparison, emitInterval, emitFace}
 use Rattle.calculus.proofs.Growing.{Limited}
 use Rattle.steps.specs.declared.Ran.{Ran}
-use Rattle.steps.specs.Running.{doneBy, stepBy, Runs, Emits}
+use Rattle.steps.specs.Running.{Book, doneBy, stepBy, Runs, Emits}
 use Rattle.steps.specs.Trees.{Is, Known, Literal}
 use Rattle.formula.specs.Answers.{treeOf}
 use Rattle.bounded_steps.specs.Programs.{bounded, emitBounded, boundedKind}
@@ -69,11 +69,11 @@ bounded-bytes Faces d t l h = ap (λ (x : List ℕ). dimBytes d ++ x) (sym (h .b
 bounded-bytes Intervals d t l h = ap (λ (x : List ℕ). dimBytes d ++ x) (sym (h .bytes))
 
 -- A dimension: the comparison, then its step.
-pub dimension-stop : {l l₁ : List ℕ} {r : Ran} (d n : ℕ) → Runs l (emitComparison less n d) r l₁ → doneBy r ≡ false → Runs l (emitInterval d (dim n)) r l₁
+pub dimension-stop : {l l₁ : Book} {r : Ran} (d n : ℕ) → Runs l (emitComparison less n d) r l₁ → doneBy r ≡ false → Runs l (emitInterval d (dim n)) r l₁
 unfolding emitInterval
 dimension-stop d n h e = runs-stop (λ i. emit 7 (i ∷ []) (interval d (dim n))) h e
 
-pub dimension-runs : {l l₁ l₂ : List ℕ} {r c : Ran} {i : ℕ} (d n : ℕ) → d ≤ 255 → n < 255 → Runs l (emitComparison less n d) r l₁ → doneBy r ≡ true → i ≡ stepBy r
+pub dimension-runs : {l l₁ l₂ : Book} {r c : Ran} {i : ℕ} (d n : ℕ) → d ≤ 255 → n < 255 → Runs l (emitComparison less n d) r l₁ → doneBy r ≡ true → i ≡ stepBy r
     → Emits l₁ 7 (i ∷ 0 ∷ 0 ∷ []) (dimBytes d ++ ((18 ∷ []) ++ dimBytes n)) c l₂ → Runs l (emitInterval d (dim n)) c l₂
 unfolding emitInterval encodeInterval nodesInterval boundInterval
 dimension-runs {l₁} {l₂} {r} {c} d n a b h e f g =
@@ -96,14 +96,14 @@ pub dim-at : (b : ℕ) (g : ℕ → Interval) → nodeOf Intervals b ≡ lit g �
 dim-at b g e = at-lit Intervals (λ b g. (n : ℕ) → g n ≡ dim n) (record { at0 = tt; at1 = tt; at2 = λ n. refl; at3 = tt; at4 = tt; at5 = tt; none = λ b. tt }) b g e
 
 -- The program of a literal, by the sort.
-pub literal-interval : {l l₁ f : List ℕ} {r : Ran} {q : Place} {n : ℕ} (d : ℕ) (t : Interval) → View Intervals f t (Lit q n) → Runs l (emitInterval d (dim n)) r l₁ → Runs l (emitInterval d t) r l₁
+pub literal-interval : {l l₁ : Book} {f : List ℕ} {r : Ran} {q : Place} {n : ℕ} (d : ℕ) (t : Interval) → View Intervals f t (Lit q n) → Runs l (emitInterval d (dim n)) r l₁ → Runs l (emitInterval d t) r l₁
 literal-interval {l} {l₁} {r = r} d t (a-lit b n g e i) h = subst (λ (x : Interval). Runs l (emitInterval d x) r l₁) (sym (dim-at b g e n)) h
 
-pub literal-stop : {l l₁ f : List ℕ} {r : Ran} {q : Place} {n : ℕ} (s : Sort) (d : ℕ) (t : Tree s) → View s f t (Lit q n) → Runs l (emitInterval d (dim n)) r l₁ → doneBy r ≡ false → Runs l (emitBounded s d t) r l₁
+pub literal-stop : {l l₁ : Book} {f : List ℕ} {r : Ran} {q : Place} {n : ℕ} (s : Sort) (d : ℕ) (t : Tree s) → View s f t (Lit q n) → Runs l (emitInterval d (dim n)) r l₁ → doneBy r ≡ false → Runs l (emitBounded s d t) r l₁
 literal-stop {l} {l₁} {r = r} Faces d t (a-lit b n g e i) h c = subst (λ (p : Program). Runs l p r l₁) (sym (lit-at d b g e n .0)) (runs-stop (λ i. emit (b + 11) (i ∷ []) (face d (g n))) h c)
 literal-stop Intervals d t v h c = literal-interval d t v h
 
-pub literal-face : {l l₁ l₂ f : List ℕ} {r c : Ran} {q : Place} {n i k z : ℕ} (d : ℕ) (t : Face) → View Faces f t (Lit q n) → Is Faces t f → d ≤ 255 → Runs l (emitInterval d (dim n)) r l₁ → doneBy r ≡ true → i ≡ stepBy r
+pub literal-face : {l l₁ l₂ : Book} {f : List ℕ} {r c : Ran} {q : Place} {n i k z : ℕ} (d : ℕ) (t : Face) → View Faces f t (Lit q n) → Is Faces t f → d ≤ 255 → Runs l (emitInterval d (dim n)) r l₁ → doneBy r ≡ true → i ≡ stepBy r
     → Emits l₁ (boundedKind Faces (getD f 0 0)) (i ∷ k ∷ z ∷ []) (dimBytes d ++ f) c l₂ → Runs l (emitFace d t) c l₂
 literal-face {l} {l₁} {l₂} {f} {r} {c} {i = i} {k} {z} d t (a-lit b n g e j) is a h p o w =
     let w₁ : Emits l₁ (b + 11) (i ∷ k ∷ z ∷ []) (dimBytes d ++ f) c l₂ = subst (λ (m : ℕ). Emits l₁ (m + 11) (i ∷ k ∷ z ∷ []) (dimBytes d ++ f) c l₂) (ap (λ (x : List ℕ). getD x 0 0) j) w in
@@ -119,11 +119,11 @@ pub kind-as : (s x : Sort) (b : ℕ) → s ≡ x → boundedKind x b ≡ bounded
 kind-as s x b e = ap (λ (y : Sort). boundedKind y b) (sym e)
 
 -- The same where the sort is told.
-pub literal-of-face : {l l₁ l₂ f : List ℕ} {r c : Ran} {n i k z : ℕ} (s : Sort) (d : ℕ) → s ≡ Faces → Known s f → Literal s n f → d ≤ 255 → Runs l (emitInterval d (dim n)) r l₁ → doneBy r ≡ true → i ≡ stepBy r
+pub literal-of-face : {l l₁ l₂ : Book} {f : List ℕ} {r c : Ran} {n i k z : ℕ} (s : Sort) (d : ℕ) → s ≡ Faces → Known s f → Literal s n f → d ≤ 255 → Runs l (emitInterval d (dim n)) r l₁ → doneBy r ≡ true → i ≡ stepBy r
     → Emits l₁ (boundedKind Faces (getD f 0 0)) (i ∷ k ∷ z ∷ []) (dimBytes d ++ f) c l₂ → Runs l (emitBounded s d (treeOf s f)) c l₂
 literal-of-face {f = f} Faces d e h x a k p o w = literal-face d (treeOf Faces f) (literal-view h x) h a k p o w
 literal-of-face Intervals d e h x a k p o w = absurd (let z : _≡_ {A = ℕ} 0 1 = cc in omega arith)
 
-pub literal-of-interval : {l l₁ f : List ℕ} {r : Ran} {n : ℕ} (s : Sort) (d : ℕ) → s ≡ Intervals → Known s f → Literal s n f → Runs l (emitInterval d (dim n)) r l₁ → Runs l (emitBounded s d (treeOf s f)) r l₁
+pub literal-of-interval : {l l₁ : Book} {f : List ℕ} {r : Ran} {n : ℕ} (s : Sort) (d : ℕ) → s ≡ Intervals → Known s f → Literal s n f → Runs l (emitInterval d (dim n)) r l₁ → Runs l (emitBounded s d (treeOf s f)) r l₁
 literal-of-interval Faces d e h x k = absurd (let z : _≡_ {A = ℕ} 0 1 = cc in omega arith)
 literal-of-interval {f = f} Intervals d e h x k = literal-interval d (treeOf Intervals f) (literal-view h x) k

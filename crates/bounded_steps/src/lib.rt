@@ -10,8 +10,8 @@ ghost use lib.ListN.{length, getD};
 ghost use Rattle.formula.specs.Formula.{dim};
 ghost use Rattle.formula.specs.Bytes.{dimBytes};
 ghost use Rattle.calculus.specs.Calls.{emitInterval};
-ghost use Rattle.ledger.specs.Ledger.{Led};
-ghost use Rattle.steps.specs.Running.{Runs, Emits};
+ghost use Rattle.index.specs.Index.{Indexed};
+ghost use Rattle.steps.specs.Running.{book, Runs, Emits};
 ghost use Rattle.formula.specs.Answers.{treeOf};
 ghost use Rattle.steps.specs.Trees.{Known, Literal};
 ghost use Rattle.bounded_steps.specs.Programs.{boundedKind, emitBounded};
@@ -33,26 +33,35 @@ fn bounded_kind(sort: Sort, b: u8) -> usize
 }
 
 // The step of the whole formula, from those of its parts.
-fn bounded_whole(l: &mut [u8], sort: Sort, d: usize, f: &[u8], i: usize, k: usize) -> Ran
-    requires { ⌜ Led (now l) × (0 < length (now f)) × (length (now f) ≤ 1022) × (d ≤ 255) ⌝ }
-    ensures { λ r. ⌜ Emits (now (l .entry)) (boundedKind sort (getD (now (f .entry)) 0 0)) (i ∷ k ∷ 0 ∷ []) (dimBytes d ++ now (f .entry)) r (now (l .exit)) ⌝ }
+fn bounded_whole(
+    l: &mut [u8],
+    ix: &mut [u32],
+    sort: Sort,
+    d: usize,
+    f: &[u8],
+    i: usize,
+    k: usize,
+) -> Ran
+    requires { ⌜ Indexed (now l) (now ix) × (0 < length (now f)) × (length (now f) ≤ 1022) × (d ≤ 255) ⌝ }
+    ensures { λ r. ⌜ Emits (book (now (l .entry)) (now (ix .entry))) (boundedKind sort (getD (now (f .entry)) 0 0)) (i ∷ k ∷ 0 ∷ []) (dimBytes d ++ now (f .entry)) r (book (now (l .exit)) (now (ix .exit))) ⌝ }
 {
     let kind = bounded_kind(sort, f[0]);
-    steps::emit2(l, kind, [i, k, 0], &steps::number(d), f)
+    steps::emit2(l, ix, kind, [i, k, 0], &steps::number(d), f)
 }
 
 // The steps of a dimension as an interval.
-fn dimension(l: &mut [u8], d: usize, n: usize) -> Ran
-    requires { ⌜ Led (now l) × (d ≤ 255) × (n < 255) ⌝ }
-    ensures { λ r. ⌜ Runs (now (l .entry)) (emitInterval d (dim n)) r (now (l .exit)) ⌝ }
+fn dimension(l: &mut [u8], ix: &mut [u32], d: usize, n: usize) -> Ran
+    requires { ⌜ Indexed (now l) (now ix) × (d ≤ 255) × (n < 255) ⌝ }
+    ensures { λ r. ⌜ Runs (book (now (l .entry)) (now (ix .entry))) (emitInterval d (dim n)) r (book (now (l .exit)) (now (ix .exit))) ⌝ }
 {
-    let r = steps::comparison(l, true, n, d);
+    let r = steps::comparison(l, ix, true, n, d);
     if !steps::is_done(r) {
         return r;
     }
     let node = [18u8; 1];
     steps::emit3(
         l,
+        ix,
         7,
         [steps::step_of(r), 0, 0],
         &steps::number(d),
@@ -62,48 +71,48 @@ fn dimension(l: &mut [u8], d: usize, n: usize) -> Ran
 }
 
 // The steps of a literal on n: of its dimension, and in a face its own.
-fn bounded_literal(l: &mut [u8], sort: Sort, d: usize, n: usize, f: &[u8]) -> Ran
-    requires { ⌜ Led (now l) × Known sort (now f) × (d ≤ 255) × Literal sort n (now f) ⌝ }
-    ensures { λ r. ⌜ Runs (now (l .entry)) (emitBounded sort d (treeOf sort (now (f .entry)))) r (now (l .exit)) ⌝ }
+fn bounded_literal(l: &mut [u8], ix: &mut [u32], sort: Sort, d: usize, n: usize, f: &[u8]) -> Ran
+    requires { ⌜ Indexed (now l) (now ix) × Known sort (now f) × (d ≤ 255) × Literal sort n (now f) ⌝ }
+    ensures { λ r. ⌜ Runs (book (now (l .entry)) (now (ix .entry))) (emitBounded sort d (treeOf sort (now (f .entry)))) r (book (now (l .exit)) (now (ix .exit))) ⌝ }
 {
-    let r = dimension(l, d, n);
+    let r = dimension(l, ix, d, n);
     if !steps::is_done(r) {
         return r;
     }
     match sort {
-        Sort::Faces => bounded_whole(l, Sort::Faces, d, f, steps::step_of(r), 0),
+        Sort::Faces => bounded_whole(l, ix, Sort::Faces, d, f, steps::step_of(r), 0),
         Sort::Intervals => r,
     }
 }
 
 // The steps of a formula and its parts; 8 at the first dimension that is not below d.
-pub fn bounded(l: &mut [u8], sort: Sort, d: usize, f: &[u8]) -> Ran
-    requires { ⌜ Led (now l) × Known sort (now f) × (d ≤ 255) ⌝ }
-    ensures { λ r. ⌜ Runs (now (l .entry)) (emitBounded sort d (treeOf sort (now (f .entry)))) r (now (l .exit)) ⌝ }
+pub fn bounded(l: &mut [u8], ix: &mut [u32], sort: Sort, d: usize, f: &[u8]) -> Ran
+    requires { ⌜ Indexed (now l) (now ix) × Known sort (now f) × (d ≤ 255) ⌝ }
+    ensures { λ r. ⌜ Runs (book (now (l .entry)) (now (ix .entry))) (emitBounded sort d (treeOf sort (now (f .entry)))) r (book (now (l .exit)) (now (ix .exit))) ⌝ }
 {
     let first = Place { at: 0, pending: 1 };
     match first.step(sort, f) {
-        Step::Leaf(_) => bounded_whole(l, sort, d, f, 0, 0),
-        Step::Lit(_, n) => bounded_literal(l, sort, d, n, f),
+        Step::Leaf(_) => bounded_whole(l, ix, sort, d, f, 0, 0),
+        Step::Lit(_, n) => bounded_literal(l, ix, sort, d, n, f),
         Step::One(_) => {
-            let r = bounded(l, sort, d, &f[1..]);
+            let r = bounded(l, ix, sort, d, &f[1..]);
             if !steps::is_done(r) {
                 return r;
             }
-            bounded_whole(l, sort, d, f, steps::step_of(r), 0)
+            bounded_whole(l, ix, sort, d, f, steps::step_of(r), 0)
         }
         Step::Two(_) => {
             let a = formula::formula_at(sort, f, 1);
             let m = 1 + a.len();
-            let r = bounded(l, sort, d, a);
+            let r = bounded(l, ix, sort, d, a);
             if !steps::is_done(r) {
                 return r;
             }
-            let s = bounded(l, sort, d, &f[m..]);
+            let s = bounded(l, ix, sort, d, &f[m..]);
             if !steps::is_done(s) {
                 return s;
             }
-            bounded_whole(l, sort, d, f, steps::step_of(r), steps::step_of(s))
+            bounded_whole(l, ix, sort, d, f, steps::step_of(r), steps::step_of(s))
         }
         Step::Stuck => Ran::Full,
     }

@@ -104,6 +104,19 @@ pub tail-length : (k : ℕ) (l : List ℕ) → length (tail k l) ≡ length l - 
 tail-length k l = length-take-le (length l - k) (drop k l) (omega (arith, length-drop k l)) ∙ refl
 
 -- Three parts, written one behind the other.
+pub three-written : (z a b c z₁ z₂ z₃ : List ℕ) (i j n : ℕ) → i ≡ length a → j ≡ length a + length b → n ≡ length a + length b + length c → n ≤ length z → z₁ ≡ sets z 0 a → z₂ ≡ sets z₁ i b → z₃ ≡ sets z₂ j c
+    → (n ≤ length z₃) × (take n z₃ ≡ a ++ (b ++ c))
+three-written z a b c z₁ z₂ z₃ i j n p q r h e f k =
+    let u : i ≡ 0 + length a = omega arith in
+    let v : j ≡ 0 + length (a ++ b) = omega (arith, length-append a b) in
+    let y₂ : z₂ ≡ sets z 0 (a ++ b) = f ∙ ap₂ (λ (d : List ℕ) (m : ℕ). sets d m b) e u ∙ sets-append a b z 0 in
+    let y₃ : z₃ ≡ sets z 0 (a ++ (b ++ c)) = k ∙ ap₂ (λ (d : List ℕ) (m : ℕ). sets d m c) y₂ v ∙ sets-append (a ++ b) c z 0 ∙ ap (sets z 0) (append-assoc a b c) in
+    let w : length (a ++ (b ++ c)) ≡ n = length-append a (b ++ c) ∙ omega (arith, length-append b c) in (
+      omega (arith, ap length y₃, length-sets z 0 (a ++ (b ++ c))),
+      ap (take n) (y₃ ∙ sets-eq (a ++ (b ++ c)) z 0 (omega (arith, w))) ∙ take-at (a ++ (b ++ c)) (drop (0 + length (a ++ (b ++ c))) z) n w,
+    )
+
+-- A context without a face, written.
 module _ (front g : List ℕ) (at end : ℕ) (p : at ≤ end) (q : end ≤ length g) where
   pub cut-length : length (cut at end g) ≡ at + (length g - end)
   cut-length = length-append (take at g) (drop end g) ∙ omega (arith, length-take-le at g (omega arith), length-drop end g)
@@ -112,16 +125,5 @@ module _ (front g : List ℕ) (at end : ℕ) (p : at ≤ end) (q : end ≤ lengt
       → (length front + at + (length g - end) ≤ length z₃) × (take (length front + at + (length g - end)) z₃ ≡ front ++ cut at end g)
   leave-writes z z₁ z₂ z₃ h e f k =
       let t : tail end g ≡ drop end g = take-all (length g - end) (drop end g) (omega (arith, length-drop end g)) in
-      let i : length front ≡ 0 + length front = omega arith in
-      let la = length-append front (take at g) in
-      let lt = length-take-le at g (omega arith) in
-      let j : length front + at ≡ 0 + length (front ++ take at g) = omega arith in
-      let y₂ : z₂ ≡ sets z 0 (front ++ take at g) = f ∙ ap₂ (λ (d : List ℕ) (m : ℕ). sets d m (take at g)) e i ∙ sets-append front (take at g) z 0 in
-      let y₃ : z₃ ≡ sets z 0 (front ++ cut at end g) =
-      k ∙ ap (sets z₂ (length front + at)) t ∙ ap₂ (λ (d : List ℕ) (m : ℕ). sets d m (drop end g)) y₂ j ∙ sets-append (front ++ take at g) (drop end g) z 0
-      ∙ ap (sets z 0) (append-assoc front (take at g) (drop end g)) in
-      let n : length (front ++ cut at end g) ≡ length front + at + (length g - end) = length-append front (cut at end g) ∙ omega (arith, cut-length) in (
-        omega (arith, ap length y₃, length-sets z 0 (front ++ cut at end g), cut-length),
-        ap (take (length front + at + (length g - end))) (y₃ ∙ sets-eq (front ++ cut at end g) z 0 (omega (arith, n, cut-length)))
-            ∙ take-at (front ++ cut at end g) (drop (0 + length (front ++ cut at end g)) z) (length front + at + (length g - end)) n,
-      )
+      let m = length-take-le at g (omega arith) in
+      three-written z front (take at g) (drop end g) z₁ z₂ z₃ (length front) (length front + at) (length front + at + (length g - end)) refl (omega (arith, m)) (omega (arith, m, length-drop end g)) (omega (arith, cut-length)) e f (k ∙ ap (sets z₂ (length front + at)) t)

@@ -19,7 +19,7 @@ use Rattle.calculus.specs.Emit.{Program, emit, _>>=_}
 use Rattle.calculus.specs.Calls.{emitTake}
 use Rattle.calculus.proofs.Growing.{Limited}
 use Rattle.steps.specs.declared.Ran.{Ran}
-use Rattle.steps.specs.Running.{doneBy, stepBy, Runs, Emits}
+use Rattle.steps.specs.Running.{Book, doneBy, stepBy, Runs, Emits}
 use Rattle.steps.specs.Trees.{Is}
 use Rattle.steps.proofs.RunLaws.{emits-by}
 use Rattle.steps.proofs.TreeLaws.{is-short}
@@ -98,7 +98,7 @@ leave-up (suc i) f H z =
     (ap (λ (k : ℕ). getD H k ff) e, ap (λ (k : ℕ). f ∷ leave k H) e)
 
 module _ {G : List Face} {i n : ℕ} {x g d : List ℕ} (w : Leaves G i x n g d) where
-  pub take-here : {l l′ c e : List ℕ} {r : Ran} → i ≡ 0 → c ≡ littleEndian 2 n → e ≡ littleEndian 2 (n - 1) → Emits l 19 (0 ∷ 0 ∷ 0 ∷ []) (c ++ (g ++ (x ++ (e ++ d)))) r l′ → Runs l (leaving i G) r l′
+  pub take-here : {l l′ : Book} {c e : List ℕ} {r : Ran} → i ≡ 0 → c ≡ littleEndian 2 n → e ≡ littleEndian 2 (n - 1) → Emits l 19 (0 ∷ 0 ∷ 0 ∷ []) (c ++ (g ++ (x ++ (e ++ d)))) r l′ → Runs l (leaving i G) r l′
   take-here {l} {l′} {r} z p q t =
       subst (λ (y : Program). Runs l y r l′) (sym (leaving-first i G (inside w) z)) (emits-by t (first-rule i G (inside w) z) [] refl tt (take-limited w) refl (take-bytes w p q))
 
@@ -127,7 +127,7 @@ module _ {G : List Face} {i n : ℕ} {x g d : List ℕ} (w : Leaves G i x n g d)
     pub rest-without : Leaves (contextOf (n - 1) (tail (length h) g)) (i - 1) x (n - 1) (tail (length h) g) (tail (length h) d)
     rest-without = subst (λ (K : List Face). Leaves K (i - 1) x (n - 1) (tail (length h) g) (tail (length h) d)) (sym (context-of (first .others))) rest-leaves
 
-    module _ {l l₁ : List ℕ} {r : Ran} (s : Runs l (leaving (i - 1) (contextOf (n - 1) (tail (length h) g))) r l₁) where
+    module _ {l l₁ : Book} {r : Ran} (s : Runs l (leaving (i - 1) (contextOf (n - 1) (tail (length h) g))) r l₁) where
       program : leaving i G ≡ (leaving (i - 1) (contextOf (n - 1) (tail (length h) g)) >>= after 20 (take G (getD G i ff) (leave i G)))
       program =
           let v = first in
@@ -138,7 +138,7 @@ module _ {G : List Face} {i n : ℕ} {x g d : List ℕ} (w : Leaves G i x n g d)
       pub take-stop : doneBy r ≡ false → Runs l (leaving i G) r l₁
       take-stop e = after-stop program s e
 
-      pub take-up : {l₂ c e : List ℕ} {t : Ran} {k : ℕ} → doneBy r ≡ true → k ≡ stepBy r → c ≡ littleEndian 2 n → e ≡ littleEndian 2 (n - 1) → Emits l₁ 20 (k ∷ 0 ∷ 0 ∷ []) (c ++ (g ++ (x ++ (e ++ d)))) t l₂ → Runs l (leaving i G) t l₂
+      pub take-up : {l₂ : Book} {c e : List ℕ} {t : Ran} {k : ℕ} → doneBy r ≡ true → k ≡ stepBy r → c ≡ littleEndian 2 n → e ≡ littleEndian 2 (n - 1) → Emits l₁ 20 (k ∷ 0 ∷ 0 ∷ []) (c ++ (g ++ (x ++ (e ++ d)))) t l₂ → Runs l (leaving i G) t l₂
       take-up u j o q m =
           let v = first in
           after-up program s u j (subst (λ (I : List Face). Rules.Rule 20 (take (v .rest) (getD (v .rest) (i - 1) ff) (leave (i - 1) (v .rest)) ∷ []) (take I (getD I i ff) (leave i I))) (sym (v .whole)) (up-rule i (v .first) (v .rest) z)) (take-limited w) (take-bytes w o q) m

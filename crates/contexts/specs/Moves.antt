@@ -6,9 +6,11 @@ use Prim.Native.Nat.{ℕ, suc, _<_}
 use lib.ListN.{length, getD, take, drop}
 use Rattle.formula.specs.Formula.{lo, hi, Face, ff, ft, at, fand, for}
 use Rattle.calculus.specs.Search.{Move, by-clash, stuck, splitOf, tryLeft}
-use Rattle.calculus.specs.Judgement.{cover}
-use Rattle.calculus.specs.Emit.{Program, emit, _>>=_}
-use Rattle.calculus.specs.Calls.{emitMember}
+use Rattle.calculus.specs.Judgement.{Step, cover}
+use Rattle.calculus.specs.Emit.{Program, emit, _>>=_, done, run}
+use Rattle.calculus.specs.Calls.{emitMember, emitCover}
+use Rattle.index.specs.declared.Found.{Found}
+use Rattle.index.specs.declared.Found.the-variants.{At, Absent}
 use Rattle.contexts.specs.declared.moves.Clash.{Clash}
 use Rattle.contexts.specs.declared.moves.Clash.the-variants.{Of, Free}
 
@@ -46,3 +48,8 @@ coverClash k G g = do
   i ← emitMember (at lo k) G
   j ← emitMember (at hi k) G
   emit 24 (i ∷ j ∷ []) (cover G g)
+
+-- What is known of the search for a goal in a context: that made again over the steps L it appends nothing and answers i, or nothing.
+abbrev pub Settled : List Step → List Face → Face → Found → Type 0
+Settled L G g (At i) = (room : List Step → Bool) → run room (emitCover G g) L ≡ done i L
+Settled L G g (Absent n) = Unit {0}

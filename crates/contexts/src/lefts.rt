@@ -6,8 +6,8 @@ ghost use lib.ListN.{length, getD, take, drop};
 ghost use Rattle.formula.specs.Formula.{ff};
 ghost use Rattle.calculus.specs.Record.{facesBytes};
 ghost use Rattle.calculus.specs.Calls.{emitTake};
-ghost use Rattle.ledger.specs.Ledger.{Led};
-ghost use Rattle.steps.specs.Running.{Runs};
+ghost use Rattle.index.specs.Index.{Indexed};
+ghost use Rattle.steps.specs.Running.{book, Runs};
 ghost use Rattle.contexts.specs.Contexts.{contextOf, Context, cut, At};
 use crate::takes;
 use formula::Sort;
@@ -39,11 +39,19 @@ pub fn leave(front: &[u8], g: &[u8], at: usize, end: usize, out: &mut [u8]) -> u
 }
 
 // The step that leaves the face number i, whose bytes x begin at `at`, out of the context.
-pub fn left_out(l: &mut [u8], i: usize, x: &[u8], at: usize, n: usize, g: &[u8]) -> Ran
-    requires { ⌜ Led (now l) × At (contextOf n (now g)) i (now x) at n (now g) ⌝ }
-    ensures { λ r. ⌜ Runs (now (l .entry)) (emitTake (take i (contextOf n (now (g .entry)))) (getD (contextOf n (now (g .entry))) i ff) (drop (suc i) (contextOf n (now (g .entry))))) r (now (l .exit)) ⌝ }
+pub fn left_out(
+    l: &mut [u8],
+    ix: &mut [u32],
+    i: usize,
+    x: &[u8],
+    at: usize,
+    n: usize,
+    g: &[u8],
+) -> Ran
+    requires { ⌜ Indexed (now l) (now ix) × At (contextOf n (now g)) i (now x) at n (now g) ⌝ }
+    ensures { λ r. ⌜ Runs (book (now (l .entry)) (now (ix .entry))) (emitTake (take i (contextOf n (now (g .entry)))) (getD (contextOf n (now (g .entry))) i ff) (drop (suc i) (contextOf n (now (g .entry))))) r (book (now (l .exit)) (now (ix .exit))) ⌝ }
 {
     let mut made = [0u8; 1024];
     let m = leave(&x[..0], g, at, at + x.len(), &mut made);
-    takes::take(l, i, x, n, g, &made[..m])
+    takes::take(l, ix, i, x, n, g, &made[..m])
 }

@@ -3,59 +3,33 @@ use Prim.Native.Nat.{ℕ, suc, _+_, _≤_}
 use native.Mathlib.Omega.{arith}
 use native.Mathlib.Nat.{add-zero, zero-add}
 use mathlib.Core.Path.{_≡_, refl, sym, ap, ap₂, _∙_, subst}
-use mathlib.Core.Bool.{Bool, true, false, _&&_, and-eq-true-iff}
-use mathlib.Core.Option.{Option, none, some, Option·map}
+use mathlib.Core.Bool.{Bool, true, false}
+use mathlib.Core.Option.{Option, none, some}
 use mathlib.Core.List.{List, [], _∷_, _++_}
-use lib.Dec.{eqb}
 use lib.ListN.{length, take}
-use borrow.Author.Tests.{eqb-true, eq-eqb, le-leb, lt-leb}
-use Rattle.formula.specs.Answers.{sameBytes}
-use Rattle.formula.proofs.ByteLaws.{same-refl, same-true}
-use Rattle.calculus.specs.Judgement.{Judgement, Step, sameJudgement}
-use Rattle.calculus.specs.Table.{Pred, predicate, entryOf}
-use Rattle.calculus.specs.Record.{operandBytes, size, ledgerBytes, FormedStep, FormedFrom, Holds}
-use Rattle.calculus.specs.Emit.{here, find, emit, within, run}
-use Rattle.calculus.proofs.Fields.{Allowed, operands-injective}
+use borrow.Author.Tests.{le-leb, lt-leb}
+use Rattle.calculus.specs.Judgement.{Step}
+use Rattle.calculus.specs.Table.{predicate, entryOf}
+use Rattle.calculus.specs.Record.{size, ledgerBytes, FormedStep, FormedFrom, Holds}
+use Rattle.calculus.specs.Emit.{find, emit, within, run}
 use Rattle.calculus.proofs.Records.{ledger-length}
-use Rattle.kinds.specs.Kinds.{numberOf, predicateOf, entryAs}
+use Rattle.kinds.specs.Kinds.{numberOf, entryAs}
 use Rattle.kinds.specs.declared.Entry.the-variants.{Listed, Unlisted}
-use Rattle.kinds.proofs.KindLaws.{numbered, listed-same, not-unlisted}
-use Rattle.emission.specs.declared.Found.the-variants.{At, Absent}
+use Rattle.kinds.proofs.KindLaws.{listed-same, not-unlisted}
+use Rattle.ledger.specs.Ledger.{stepsOf, Led}
+use Rattle.index.specs.declared.Found.the-variants.{At, Absent}
+use Rattle.index.specs.Finding.{findBytes, foundAs}
+use Rattle.index.proofs.SameLaws.{find-same, found-some, found-none}
 use Rattle.emission.specs.declared.Emitted.{Emitted}
 use Rattle.emission.specs.declared.Emitted.the-variants.{Full, Step as Number}
-use Rattle.ledger.specs.Ledger.{stepsOf, Led}
-use Rattle.emission.specs.Emitting.{sameStep, first, findBytes, foundAs, Stands, Appends, Ran, Emission, EmissionAs}
-
--- A number tells its predicate.
-number-injective : (p q : Pred) → numberOf p ≡ numberOf q → p ≡ q
-number-injective p q e = sym (numbered p .0) ∙ ap predicateOf e ∙ numbered q .0
-
--- Equal predicate and operands are an equal judgement, of those that a ledger may hold.
-same-step : (j : Judgement) (s : Step) → Allowed j → Allowed (s .judgement) → (d : Dec (s .judgement ≡ j)) (o p : Option ℕ) → o ≡ p
-    → first (sameStep (numberOf (predicate j)) (operandBytes j) s) o ≡ here d p
-same-step j s a b (yes e) o p h =
-    let n : numberOf (predicate (s .judgement)) ≡ numberOf (predicate j) = ap (λ (x : Judgement). numberOf (predicate x)) e in
-    let m : sameBytes (operandBytes (s .judgement)) (operandBytes j) ≡ true = ap (λ (x : Judgement). sameBytes (operandBytes x) (operandBytes j)) e ∙ same-refl (operandBytes j) in
-    ap₂ (λ (x y : Bool). first (x && y) o) (eq-eqb (numberOf (predicate (s .judgement))) (numberOf (predicate j)) n) m
-same-step j s a b (no e) o p h = go (sameStep (numberOf (predicate j)) (operandBytes j) s) refl
-  where
-    go : (t : Bool) → sameStep (numberOf (predicate j)) (operandBytes j) s ≡ t → first t o ≡ Option·map (λ n. suc n) p
-    go true i =
-        let k = and-eq-true-iff (eqb (numberOf (predicate (s .judgement))) (numberOf (predicate j))) (sameBytes (operandBytes (s .judgement)) (operandBytes j)) .0 i in
-        absurd (e (operands-injective (s .judgement) j b a (number-injective (predicate (s .judgement)) (predicate j) (eqb-true _ _ (k .0))) (same-true (operandBytes (s .judgement)) (operandBytes j) (k .1))))
-    go false i = ap (Option·map (λ n. suc n)) h
-
-find-same : (j : Judgement) → Allowed j → (k : ℕ) (L : List Step) → FormedFrom k L → findBytes (numberOf (predicate j)) (operandBytes j) L ≡ find j L
-unfolding findBytes find
-find-same j a k [] f = refl
-find-same j a k (s ∷ L) f = same-step j s a (f .0 .limits) (sameJudgement (s .judgement) j) _ _ (find-same j a (suc k) L (f .1))
+use Rattle.emission.specs.Emitting.{Stands, Appends, Ran, Emission, EmissionAs}
 
 -- A well-formed step more keeps a ledger well formed.
 formed-snoc : (k : ℕ) (L : List Step) (s : Step) → FormedFrom k L → FormedStep (k + length L) s → FormedFrom k (L ++ s ∷ [])
 formed-snoc k [] s f g = (subst (λ (n : ℕ). FormedStep n s) (add-zero k) g, tt)
 formed-snoc k (r ∷ L) s f g = let e : k + length (r ∷ L) ≡ suc k + length L = omega arith in (f .0, formed-snoc (suc k) L s (f .1) (subst (λ (n : ℕ). FormedStep n s) e g))
 
-holds-more : {l l′ : List ℕ} {L : List Step} → Holds l L → (s : Step) → FormedStep (length L) s → size (L ++ s ∷ []) ≤ length l → l′ ≡ ledgerBytes (length l) (L ++ s ∷ [])
+pub holds-more : {l l′ : List ℕ} {L : List Step} → Holds l L → (s : Step) → FormedStep (length L) s → size (L ++ s ∷ []) ≤ length l → l′ ≡ ledgerBytes (length l) (L ++ s ∷ [])
     → (length l′ ≡ length l) × Holds l′ (L ++ s ∷ [])
 holds-more {l} {l′} {L} h s f b e =
     let n : length l′ ≡ length l = ap length e ∙ ledger-length (length l) (L ++ s ∷ []) b in
@@ -67,14 +41,6 @@ asked : {l : List ℕ} → Led l → (s : Step) → FormedStep (length (stepsOf 
     → (o : Option ℕ) → findBytes p x (stepsOf l) ≡ o → find (s .judgement) (stepsOf l) ≡ o
 asked {l} h s f p is x kind t e o i =
     sym (find-same (s .judgement) (f .limits) 0 (stepsOf l) (h .formed)) ∙ ap₂ (λ (q : ℕ) (y : List ℕ). findBytes q y (stepsOf l)) e (t .judges) ∙ i
-
-found-some : (o : Option ℕ) (n i : ℕ) → At i ≡ foundAs o n → o ≡ some i
-found-some none n i e = absurd (let z : _≡_ {A = ℕ} 0 1 = cc in omega arith)
-found-some (some k) n i e = let z : k ≡ i = cc in ap some z
-
-found-none : (o : Option ℕ) (n i : ℕ) → Absent i ≡ foundAs o n → (o ≡ none) × (i ≡ n)
-found-none none n i e = (refl, cc)
-found-none (some k) n i e = absurd (let z : _≡_ {A = ℕ} 0 1 = cc in omega arith)
 
 -- The emit rule where the judgement stands already.
 pub emit-found : {l : List ℕ} → Led l → (kind p i : ℕ) (is x : List ℕ) → At i ≡ foundAs (findBytes p x (stepsOf l)) (length (stepsOf l))

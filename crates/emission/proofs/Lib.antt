@@ -1,3 +1,3 @@
-pub mod FindLaws
 pub mod GrowLaws
 pub mod EmitLaws
+pub mod KeepLaws

@@ -1,47 +1,19 @@
--- What the functions that write to a ledger's bytes answer and leave: the lowest equal step, a step more, the emit rule, going back.
+-- What the functions that write to a ledger's bytes answer and leave: a step more, the emit rule, going back.
 use mathlib.Core.Path.{_≡_}
-use mathlib.Core.Bool.{Bool, true, false, _&&_}
-use mathlib.Core.Option.{Option, none, some, Option·map}
+use mathlib.Core.Bool.{Bool, true, false}
 use mathlib.Core.List.{List, [], _∷_, _++_}
-use Prim.Native.Nat.{ℕ, suc, _≤_, _<_}
-use lib.Dec.{eqb}
+use Prim.Native.Nat.{ℕ, _≤_, _<_}
 use lib.ListN.{length, take}
-use Rattle.formula.specs.Answers.{sameBytes}
 use Rattle.calculus.specs.Judgement.{Step}
 use Rattle.calculus.specs.Table.{predicate}
-use Rattle.calculus.specs.Rules.{stepAt}
 use Rattle.calculus.specs.Record.{littleEndian, operandBytes, referencesBytes, size, ledgerBytes, FormedStep, Holds}
 use Rattle.calculus.specs.Emit.{Outcome, done, stopped, full, emit, within, run}
 use Rattle.kinds.specs.Kinds.{numberOf}
 use Rattle.ledger.specs.Ledger.{stepsOf}
-use Rattle.emission.specs.declared.Found.{Found}
-use Rattle.emission.specs.declared.Found.the-variants.{At, Absent}
+use Rattle.index.specs.Index.{Indexed}
 use Rattle.emission.specs.declared.Emitted.{Emitted}
 use Rattle.emission.specs.declared.Emitted.the-variants.{Full}
 use Rattle.emission.specs.declared.Emitted.the-variants.{Step as Number}
-
--- Has the step this predicate and these operands?
-abbrev pub sameStep : ℕ → List ℕ → Step → Bool
-sameStep p operands s = eqb (numberOf (predicate (s .judgement))) p && sameBytes (operandBytes (s .judgement)) operands
-
--- For a private contract: a test that fails only for steps without these operands.
-abbrev pub RulesOut : List ℕ → ℕ → List ℕ → Bool → Type 0
-RulesOut l i operands r = r ≡ false → (p : ℕ) → sameStep p operands (stepAt (stepsOf l) i) ≡ false
-
--- Number 0 where the first step is the one, else one more than the number among the others.
-abbrev pub first : Bool → Option ℕ → Option ℕ
-first true o = some 0
-first false o = Option·map (λ n. suc n) o
-
--- The number of the lowest step with this predicate and these operands.
-unfoldable pub findBytes : ℕ → List ℕ → List Step → Option ℕ
-findBytes p operands [] = none
-findBytes p operands (s ∷ L) = first (sameStep p operands s) (findBytes p operands L)
-
--- A step as it is answered.
-abbrev pub foundAs : Option ℕ → ℕ → Found
-foundAs none n = Absent n
-foundAs (some i) n = At i
 
 -- The bytes stand for the step.
 pub record Stands (s : Step) (kind : ℕ) (references operands : List ℕ) : Type 0 where
@@ -87,3 +59,13 @@ abbrev pub EmissionAs : List ℕ → ℕ → List ℕ → ℕ → List ℕ → E
 EmissionAs l kind references p operands r l′ =
     (s : Step) → FormedStep (length (stepsOf l)) s → Stands s kind references operands → numberOf (predicate (s .judgement)) ≡ p
     → Ran l (run (within (length l)) (emit (s .kind) (s .references) (s .judgement)) (stepsOf l)) r l′
+
+-- The index is kept for every step that the bytes stand for.
+abbrev pub Keeps : List ℕ → ℕ → List ℕ → List ℕ → List ℕ → List ℕ → Type 0
+Keeps l kind references operands l′ x′ =
+    (s : Step) → FormedStep (length (stepsOf l)) s → Stands s kind (take (length (s .references)) references) operands → Indexed l′ x′
+
+-- For a private contract: the same where the predicate's number is known.
+abbrev pub KeepsAs : List ℕ → ℕ → List ℕ → ℕ → List ℕ → List ℕ → List ℕ → Type 0
+KeepsAs l kind references p operands l′ x′ =
+    (s : Step) → FormedStep (length (stepsOf l)) s → Stands s kind references operands → numberOf (predicate (s .judgement)) ≡ p → Indexed l′ x′

@@ -26,7 +26,7 @@ use Rattle.calculus.proofs.Ends.{fforall-hit, fforall-lt, fforall-gt}
 use Rattle.calculus.proofs.Growing.{Limited}
 use Rattle.calculus.proofs.Calling.{forall-size}
 use Rattle.steps.specs.declared.Ran.{Ran}
-use Rattle.steps.specs.Running.{doneBy, stepBy, Runs, Emits}
+use Rattle.steps.specs.Running.{Book, doneBy, stepBy, Runs, Emits}
 use Rattle.steps.specs.Trees.{Is, Known}
 use Rattle.forall_steps.specs.Programs.{forallKind}
 use Rattle.steps.proofs.RunLaws.{emits-by, emits-kind, runs-emit, runs-stop}
@@ -94,25 +94,25 @@ above-rule : (k n : ℕ) (e : End) → k < n → Rule (side e 43 46) (lt k n ∷
 above-rule k zero e h = absurd (omega arith)
 above-rule k (suc n) e h = rw (forall-above e (suc n) k h) (fforall-gt e)
 
-pub literal-hit : {l l₁ x f : List ℕ} {c : Ran} {i j z n : ℕ} (k : ℕ) (t : Face) → AtEnd f n t → n ≡ k → Limited (foralls k t) → operandBytes (foralls k t) ≡ x
+pub literal-hit : {l l₁ : Book} {x f : List ℕ} {c : Ran} {i j z n : ℕ} (k : ℕ) (t : Face) → AtEnd f n t → n ≡ k → Limited (foralls k t) → operandBytes (foralls k t) ≡ x
     → Emits l (forallKind (getD f 0 0) + 0) (i ∷ j ∷ z ∷ []) x c l₁ → Runs l (emitForall k t) c l₁
 literal-hit {l} {l₁} {f = f} {c} {n = n} k t (at-end e p) h m o w =
     subst (λ (y : Program). Runs l y c l₁) (sym (hit-program k n e h)) (emits-by (emits-kind (end-kind (λ (m : ℕ). forallKind m + 0) e (getD f 0 0) 41 44 p refl refl) w) (hit-rule k n e h) [] refl tt m refl o)
 
-pub literal-below-stop : {l l₁ f : List ℕ} {c : Ran} {n : ℕ} (k : ℕ) (t : Face) → AtEnd f n t → n < k → Runs l (emitComparison less n k) c l₁ → doneBy c ≡ false → Runs l (emitForall k t) c l₁
+pub literal-below-stop : {l l₁ : Book} {f : List ℕ} {c : Ran} {n : ℕ} (k : ℕ) (t : Face) → AtEnd f n t → n < k → Runs l (emitComparison less n k) c l₁ → doneBy c ≡ false → Runs l (emitForall k t) c l₁
 literal-below-stop {l} {l₁} {c = c} {n} k t (at-end e p) h w d =
     subst (λ (y : Program). Runs l y c l₁) (sym (below-program k n e h)) (runs-stop (λ i. emit (side e 42 45) (i ∷ []) (foralls k (at e n))) w d)
 
-pub literal-above-stop : {l l₁ f : List ℕ} {c : Ran} {n : ℕ} (k : ℕ) (t : Face) → AtEnd f n t → k < n → Runs l (emitComparison less k n) c l₁ → doneBy c ≡ false → Runs l (emitForall k t) c l₁
+pub literal-above-stop : {l l₁ : Book} {f : List ℕ} {c : Ran} {n : ℕ} (k : ℕ) (t : Face) → AtEnd f n t → k < n → Runs l (emitComparison less k n) c l₁ → doneBy c ≡ false → Runs l (emitForall k t) c l₁
 literal-above-stop {l} {l₁} {c = c} {n} k t (at-end e p) h w d =
     subst (λ (y : Program). Runs l y c l₁) (sym (above-program k n e h)) (runs-stop (λ i. emit (side e 43 46) (i ∷ []) (foralls k (at e n))) w d)
 
-pub literal-below : {l l₁ l₂ x f : List ℕ} {c s : Ran} {i j z n : ℕ} (k : ℕ) (t : Face) → AtEnd f n t → n < k → Limited (foralls k t) → operandBytes (foralls k t) ≡ x
+pub literal-below : {l l₁ l₂ : Book} {x f : List ℕ} {c s : Ran} {i j z n : ℕ} (k : ℕ) (t : Face) → AtEnd f n t → n < k → Limited (foralls k t) → operandBytes (foralls k t) ≡ x
     → Runs l (emitComparison less n k) c l₁ → doneBy c ≡ true → i ≡ stepBy c → Emits l₁ (forallKind (getD f 0 0) + 1) (i ∷ j ∷ z ∷ []) x s l₂ → Runs l (emitForall k t) s l₂
 literal-below {l} {l₂ = l₂} {f = f} {s = s} {n = n} k t (at-end e p) h m o w d g y =
     subst (λ (y : Program). Runs l y s l₂) (sym (below-program k n e h)) (runs-emit w d g (emits-kind (end-kind (λ (m : ℕ). forallKind m + 1) e (getD f 0 0) 42 45 p refl refl) y) {q = lt n k} (rw (forall-below e n k h) (fforall-lt e)) m o)
 
-pub literal-above : {l l₁ l₂ x f : List ℕ} {c s : Ran} {i j z n : ℕ} (k : ℕ) (t : Face) → AtEnd f n t → k < n → Limited (foralls k t) → operandBytes (foralls k t) ≡ x
+pub literal-above : {l l₁ l₂ : Book} {x f : List ℕ} {c s : Ran} {i j z n : ℕ} (k : ℕ) (t : Face) → AtEnd f n t → k < n → Limited (foralls k t) → operandBytes (foralls k t) ≡ x
     → Runs l (emitComparison less k n) c l₁ → doneBy c ≡ true → i ≡ stepBy c → Emits l₁ (forallKind (getD f 0 0) + 2) (i ∷ j ∷ z ∷ []) x s l₂ → Runs l (emitForall k t) s l₂
 literal-above {l} {l₂ = l₂} {f = f} {s = s} {n = n} k t (at-end e p) h m o w d g y =
     subst (λ (y : Program). Runs l y s l₂) (sym (above-program k n e h)) (runs-emit w d g (emits-kind (end-kind (λ (m : ℕ). forallKind m + 2) e (getD f 0 0) 43 46 p refl refl) y) (above-rule k n e h) m o)

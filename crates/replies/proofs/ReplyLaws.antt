@@ -23,7 +23,7 @@ use Rattle.emission.specs.Emitting.{Undone}
 use Rattle.ledger.proofs.LedgerLaws.{holds-steps}
 use Rattle.steps.specs.declared.Ran.{Ran}
 use Rattle.steps.specs.declared.Ran.the-variants.{Done, NotBelow, NotImplied, Full}
-use Rattle.steps.specs.Running.{Leaves, Ends, Runs}
+use Rattle.steps.specs.Running.{book, Leaves, Ends, RunsOn}
 use Rattle.steps.proofs.RunLaws.{runs-grew, runs-led}
 use Rattle.refusals.specs.declared.Refusal.{Refusal}
 use Rattle.refusals.specs.declared.Refusal.the-variants.{FullLedger, NotBelow as below, NotImplied as implied}
@@ -40,24 +40,24 @@ finished outs rs (Refused e) l = refuse (refusalOf e) l outs
 
 -- The ending of a run ------------------------------------------------------------------------------
 
-module _ {l l₁ : List ℕ} {p : Program} {r : Ran} {end : ℕ} (d : Led l) (h : Runs l p r l₁) (e : end ≡ size (stepsOf l)) where
+module _ {l l₁ : List ℕ} {p : Program} {r : Ran} {end : ℕ} (d : Led l) (h : RunsOn l p r l₁) (e : end ≡ size (stepsOf l)) where
   -- A run leaves the used bytes behind it, so that they can be gone back to.
   pub end-inside : Led l₁ × (4 ≤ end) × (end ≤ size (stepsOf l₁))
   end-inside =
-      let g = runs-grew h in
+      let g = runs-grew (h .runs) in
       let x : Extends (stepsOf l) (stepsOf l₁) = record { more = g .more; whole = holds-steps (g .leaves .holds) } in
-      (runs-led h, omega (arith, e), omega (arith, e, size-extends x))
+      (runs-led (h .runs) .led, omega (arith, e), omega (arith, e, size-extends x))
 
   pub ended : {l₂ : List ℕ} {a : Answer} → Ending l₁ end r a l₂ → (outs : List (List ℕ)) (rs : List Item) → concluded l outs rs (run (within (length l)) p (stepsOf l)) ≡ finished outs rs a l₂
-  ended {l₂} {a} k outs rs = go (run (within (length l)) p (stepsOf l)) (h .ends)
+  ended {l₂} {a} k outs rs = go (run (within (length l)) p (stepsOf l)) (h .runs .ends)
     where
       -- The answer b with the ledger that holds M.
-      as-left : (b : Answer) (M : List Step) → Leaves l M l₁ → (a ≡ b) × (l₂ ≡ l₁) → finished outs rs b (ledgerBytes (length l) M) ≡ finished outs rs a l₂
+      as-left : (b : Answer) (M : List Step) → Leaves (book l (h .before)) M (book l₁ (h .after)) → (a ≡ b) × (l₂ ≡ l₁) → finished outs rs b (ledgerBytes (length l) M) ≡ finished outs rs a l₂
       as-left b M v k =
           let u : ledgerBytes (length l) M ≡ l₂ = ap (λ (n : ℕ). ledgerBytes n M) (sym (v .long)) ∙ sym (v .holds .bytes) ∙ sym (k .1) in
           ap (finished outs rs b) u ∙ ap (λ (x : Answer). finished outs rs x l₂) (sym (k .0))
 
-      go : (o : Outcome) → Ends l o r l₁ → concluded l outs rs o ≡ finished outs rs a l₂
+      go : (o : Outcome) → Ends (book l (h .before)) o r (book l₁ (h .after)) → concluded l outs rs o ≡ finished outs rs a l₂
       go (done n M) x = as-left (Number n) M (x .1) (subst (λ (s : Ran). EndingBy l₁ end s a l₂) (x .0) (k .by))
       go (stopped not-below M) x = as-left (Refused below) M (x .1) (subst (λ (s : Ran). EndingBy l₁ end s a l₂) (x .0) (k .by))
       go (stopped not-implied M) x = as-left (Refused implied) M (x .1) (subst (λ (s : Ran). EndingBy l₁ end s a l₂) (x .0) (k .by))
@@ -102,7 +102,7 @@ module _ (c : Call) (t : Task) (l : List ℕ) (d : Led l) (e : taskOf c ≡ some
     too-short b = turned-away c t short-output l (stepsOf l) (read-ledger d) e (rw (kept-few (t .operands) h, kept-low (t .operands) h, kept-few (t .results) i, kept-low (t .results) i, b))
 
     -- The reply of a call that comes to run.
-    pub replied : {l₁ l₂ : List ℕ} {r : Ran} {end : ℕ} {a : Answer} → longEnough (t .results) (outputsOf c) ≡ true → Runs l (t .program) r l₁ → end ≡ size (stepsOf l) → Ending l₁ end r a l₂
+    pub replied : {l₁ l₂ : List ℕ} {r : Ran} {end : ℕ} {a : Answer} → longEnough (t .results) (outputsOf c) ≡ true → RunsOn l (t .program) r l₁ → end ≡ size (stepsOf l) → Ending l₁ end r a l₂
         → reply c l ≡ finished (outputsOf c) (t .results) a l₂
     replied b k m n =
         comes-to-run c t l (stepsOf l) (read-ledger d) e (rw (kept-few (t .operands) h, kept-low (t .operands) h, kept-few (t .results) i, kept-low (t .results) i, b))

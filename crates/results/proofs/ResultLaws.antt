@@ -22,7 +22,7 @@ use Rattle.calculus.specs.Door.{Call, Item, item, Task, taskOf, outputsOf, answ
 use Rattle.calculus.proofs.Doors.{ItemsKeep}
 use Rattle.ledger.specs.Ledger.{stepsOf, Led}
 use Rattle.steps.specs.declared.Ran.{Ran}
-use Rattle.steps.specs.Running.{Runs}
+use Rattle.steps.specs.Running.{RunsOn}
 use Rattle.steps.specs.Trees.{Is}
 use Rattle.steps.proofs.TreeLaws.{is-short}
 use Rattle.transforms.proofs.ImageLaws.{limited-is, outcome-kept, in-front}
@@ -129,7 +129,7 @@ module _ {c : Call} {k : Task} {s : Sort} {t : Tree s} {out l : List ℕ} (w : O
         ap₂ (λ (y : Size) (v : List ℕ). record { answer = answered n (measureOf y ∷ []); ledger = l₂; outputs = (v ++ drop (length v) out) ∷ [] }) (sym (h .size)) (sym (h .is .bytes))
     made-as (Refused e) l₂ = refl
 
-    pub one-made : {l₁ l₂ out′ : List ℕ} {r : Ran} {end : ℕ} {a : Answer} {m : Made} → length x ≤ length out → Runs l (k .program) r l₁ → end ≡ size (stepsOf l) → Ending l₁ end r a l₂
+    pub one-made : {l₁ l₂ out′ : List ℕ} {r : Ran} {end : ℕ} {a : Answer} {m : Made} → length x ≤ length out → RunsOn l (k .program) r l₁ → end ≡ size (stepsOf l) → Ending l₁ end r a l₂
         → out′ ≡ outBy a x out → m ≡ madeBy a z → Replies c l (saidOne m) l₂ (out′ ∷ [])
     one-made {l₂ = l₂} {a = a} n run e i o p =
         let b = le-leb (length (encode s t)) (length out) (omega (arith, n, ap length (h .is .bytes))) in

@@ -27,7 +27,7 @@ use Rattle.calculus.specs.Door.{item, Task, taskOf, answered, longEnough}
 use Rattle.calculus.proofs.Doors.{ItemsKeep}
 use Rattle.ledger.specs.Ledger.{stepsOf, Led}
 use Rattle.steps.specs.declared.Ran.{Ran}
-use Rattle.steps.specs.Running.{Runs}
+use Rattle.steps.specs.Running.{RunsOn}
 use Rattle.steps.specs.Trees.{Known}
 use Rattle.steps.proofs.TreeLaws.{read-known}
 use Rattle.boundary_steps.specs.Programs.{Sides}
@@ -120,7 +120,7 @@ module _ (r out₀ out₁ : List ℕ) where
           }) (sym e) (boundary-sizes hi lo (treeOf Intervals r) ∙ sym e)
       both-as (Refused x) l₂ = refl
 
-      pub both-made : {l₁ l₂ o₀ o₁ : List ℕ} {x : Ran} {end : ℕ} {a : Answer} {m : Made} → length zero ≤ length out₀ → length one ≤ length out₁ → Runs l (emitBoundary (treeOf Intervals r)) x l₁ → end ≡ size (stepsOf l) → Ending l₁ end x a l₂
+      pub both-made : {l₁ l₂ o₀ o₁ : List ℕ} {x : Ran} {end : ℕ} {a : Answer} {m : Made} → length zero ≤ length out₀ → length one ≤ length out₁ → RunsOn l (emitBoundary (treeOf Intervals r)) x l₁ → end ≡ size (stepsOf l) → Ending l₁ end x a l₂
           → o₀ ≡ outBy a zero out₀ → o₁ ≡ outBy a one out₁ → m ≡ madeBy a z → Replies (Door.boundary r out₀ out₁) l (saidBoth m) l₂ (o₀ ∷ o₁ ∷ [])
       unfolding sidesTask room
       both-made {l₂ = l₂} {a = a} {m = m} u v run f n i j k =

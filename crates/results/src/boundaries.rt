@@ -2,6 +2,7 @@
 use formula::Size;
 use formula::Sort;
 use operations::Outcome;
+use programs::Program;
 use refusals::Refusal;
 use replies::Made;
 ghost use mathlib.Core.List.{[], _∷_};
@@ -27,7 +28,7 @@ fn run(
     ensures { λ x. ⌜ Replies (boundaryCall (now (r .entry)) (now (out0 .entry)) (now (out1 .entry))) (now (l .entry)) (saidBoth x) (now (l .exit)) (now (out0 .exit) ∷ now (out1 .exit) ∷ []) ⌝ }
 {
     let end = ledger::used(l);
-    let x = boundary_steps::boundary(l, r, zero, one);
+    let x = programs::run(l, Program::Boundary, r, r, zero, one);
     let a = replies::ending(l, end, x);
     replies::deliver(a, zero, out0);
     replies::deliver(a, one, out1);

@@ -2,6 +2,7 @@
 use formula::Size;
 use formula::Sort;
 use operations::Outcome;
+use programs::Program;
 use refusals::Refusal;
 use replies::Made;
 ghost use mathlib.Core.List.{[], _∷_};
@@ -21,7 +22,7 @@ fn run(l: &mut [u8], f: &[u8], k: usize, result: &[u8], z: Size, out: &mut [u8])
     ensures { λ r. ⌜ Replies (forallCall (now (f .entry)) k (now (out .entry))) (now (l .entry)) (saidOne r) (now (l .exit)) (now (out .exit) ∷ []) ⌝ }
 {
     let end = ledger::used(l);
-    let r = forall_steps::forall(l, f, k, result);
+    let r = programs::run(l, Program::Forall(k), f, f, result, result);
     let a = replies::ending(l, end, r);
     replies::deliver(a, result, out);
     replies::with_size(a, z)

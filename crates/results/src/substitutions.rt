@@ -3,6 +3,7 @@ use formula::Size;
 use formula::Sort;
 use operations::Op;
 use operations::Outcome;
+use programs::Program;
 use refusals::Refusal;
 use replies::Made;
 ghost use mathlib.Core.List.{[], _∷_};
@@ -31,7 +32,7 @@ fn run(
     ensures { λ x. ⌜ Replies (transformCall sort op (now (t .entry)) (now (r .entry)) (now (out .entry))) (now (l .entry)) (saidOne x) (now (l .exit)) (now (out .exit) ∷ []) ⌝ }
 {
     let end = ledger::used(l);
-    let x = transforms::transform(l, sort, op, t, r, result);
+    let x = programs::run(l, Program::Transform(sort, op), t, r, result, result);
     let a = replies::ending(l, end, x);
     replies::deliver(a, result, out);
     replies::with_size(a, z)

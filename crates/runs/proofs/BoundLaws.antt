@@ -14,7 +14,7 @@ use Rattle.calculus.specs.Record.{number, formula, size}
 use Rattle.calculus.specs.Door.{item, Task, taskOf, outputsOf}
 use Rattle.ledger.specs.Ledger.{stepsOf, Led}
 use Rattle.steps.specs.declared.Ran.{Ran}
-use Rattle.steps.specs.Running.{Runs}
+use Rattle.steps.specs.Running.{RunsOn}
 use Rattle.formula.specs.Answers.{treeOf}
 use Rattle.steps.specs.Trees.{Known}
 use Rattle.steps.proofs.TreeLaws.{read-known}
@@ -60,7 +60,7 @@ bounded-one s d f = record {
 pub bounded-refused : (s : Sort) (d : ℕ) (f l : List ℕ) (e : Refusal) → ledgerGate (readLedger l) (operandGate s (readAll s f) (leb d 255)) ≡ Shut e → Replies (boundedCall s d f) l (said (Refused e)) l []
 bounded-refused s d f l e g = subst (Replies (boundedCall s d f) l (said (Refused e)) l) (no-outputs s d f) (refuses (boundedCall s d f) l e (one-shut (bounded-one s d f) l g))
 
-pub bounded-replies : (s : Sort) (d : ℕ) {f l l₁ l₂ : List ℕ} {r : Ran} {end : ℕ} {a : Answer} → Led l → Known s f → d ≤ 255 → Runs l (emitBounded s d (treeOf s f)) r l₁ → end ≡ size (stepsOf l) → Ending l₁ end r a l₂
+pub bounded-replies : (s : Sort) (d : ℕ) {f l l₁ l₂ : List ℕ} {r : Ran} {end : ℕ} {a : Answer} → Led l → Known s f → d ≤ 255 → RunsOn l (emitBounded s d (treeOf s f)) r l₁ → end ≡ size (stepsOf l) → Ending l₁ end r a l₂
     → Replies (boundedCall s d f) l (said a) l₂ []
 unfolding boundedTask
 bounded-replies s d {f} {l} {l₂ = l₂} {a = a} h k b run e n =

@@ -17,7 +17,7 @@ use Rattle.calculus.specs.Door
 use Rattle.calculus.specs.Door.{item, Task, endOf, every}
 use Rattle.ledger.specs.Ledger.{stepsOf, Led}
 use Rattle.steps.specs.declared.Ran.{Ran}
-use Rattle.steps.specs.Running.{Runs}
+use Rattle.steps.specs.Running.{RunsOn}
 use Rattle.formula.specs.Answers.{treeOf}
 use Rattle.steps.specs.Trees.{Known}
 use Rattle.steps.proofs.TreeLaws.{read-known}
@@ -57,7 +57,7 @@ module _ (d : ℕ) (a b : List ℕ) where
   pub entails-refused : (l : List ℕ) (e : Refusal) → ledgerGate (readLedger l) (operandsGate Faces (readAll Faces a) Faces (readAll Faces b) (leb d 255)) ≡ Shut e → Replies (Door.entails d a b) l (said (Refused e)) l []
   entails-refused l e g = record { equal = two-shut entails-two l g }
 
-  pub entails-replies : {l l₁ l₂ : List ℕ} {r : Ran} {end : ℕ} {x : Answer} → Led l → d ≤ 255 → Known Faces a → Known Faces b → Runs l (emitEntails d (treeOf Faces a) (treeOf Faces b)) r l₁ → end ≡ size (stepsOf l)
+  pub entails-replies : {l l₁ l₂ : List ℕ} {r : Ran} {end : ℕ} {x : Answer} → Led l → d ≤ 255 → Known Faces a → Known Faces b → RunsOn l (emitEntails d (treeOf Faces a) (treeOf Faces b)) r l₁ → end ≡ size (stepsOf l)
       → Ending l₁ end r x l₂ → Replies (Door.entails d a b) l (said x) l₂ []
   unfolding entails-two
   entails-replies {l} {l₂ = l₂} {x = x} h n p q run e k =
@@ -93,7 +93,7 @@ module _ (d : ℕ) (phi r : List ℕ) (one : Bool) where
       → Replies (Door.endpoint d phi r one) l (said (Refused e)) l []
   endpoint-refused l e g = record { equal = two-shut endpoint-two l g }
 
-  pub endpoint-replies : {l l₁ l₂ : List ℕ} {x : Ran} {end : ℕ} {a : Answer} → Led l → d ≤ 255 → Known Faces phi → Known Intervals r → Runs l (emitEndpoint d (treeOf Faces phi) (treeOf Intervals r) (endOf one)) x l₁
+  pub endpoint-replies : {l l₁ l₂ : List ℕ} {x : Ran} {end : ℕ} {a : Answer} → Led l → d ≤ 255 → Known Faces phi → Known Intervals r → RunsOn l (emitEndpoint d (treeOf Faces phi) (treeOf Intervals r) (endOf one)) x l₁
       → end ≡ size (stepsOf l) → Ending l₁ end x a l₂ → Replies (Door.endpoint d phi r one) l (said a) l₂ []
   unfolding endpoint-two
   endpoint-replies {l} {l₂ = l₂} {a = a} h n p q run e k =

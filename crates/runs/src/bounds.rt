@@ -1,5 +1,6 @@
 // face and interval, once over the sort.
 use formula::Sort;
+use programs::Program;
 use replies::Answer;
 ghost use mathlib.Core.List.{[]};
 ghost use Prim.Native.Nat.{_≤_};
@@ -14,6 +15,6 @@ pub fn bounded(l: &mut [u8], sort: Sort, d: usize, f: &[u8]) -> Answer
     ensures { λ r. ⌜ Replies (boundedCall sort d (now (f .entry))) (now (l .entry)) (said r) (now (l .exit)) [] ⌝ }
 {
     let end = ledger::used(l);
-    let r = bounded_steps::bounded(l, sort, d, f);
+    let r = programs::run(l, Program::Bounded(sort, d), f, f, f, f);
     replies::ending(l, end, r)
 }

@@ -1,6 +1,7 @@
 // entails and endpoint.
 use formula::Sort;
 use operations::Outcome;
+use programs::Program;
 use refusals::Refusal;
 use replies::Answer;
 ghost use mathlib.Core.List.{[]};
@@ -17,7 +18,7 @@ pub fn entails(l: &mut [u8], d: usize, a: &[u8], b: &[u8]) -> Answer
     ensures { λ r. ⌜ Replies (entailsCall d (now (a .entry)) (now (b .entry))) (now (l .entry)) (said r) (now (l .exit)) [] ⌝ }
 {
     let end = ledger::used(l);
-    let r = implications::entails(l, d, a, b);
+    let r = programs::run(l, Program::Entails(d), a, b, a, b);
     replies::ending(l, end, r)
 }
 
@@ -35,7 +36,7 @@ fn run_endpoint(
     ensures { λ x. ⌜ Replies (endpointCall d (now (phi .entry)) (now (r .entry)) hi) (now (l .entry)) (said x) (now (l .exit)) [] ⌝ }
 {
     let end = ledger::used(l);
-    let x = implications::endpoint(l, d, phi, r, zero, one, hi);
+    let x = programs::run(l, Program::Endpoint(d, hi), phi, r, zero, one);
     replies::ending(l, end, x)
 }
 

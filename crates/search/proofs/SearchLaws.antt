@@ -15,7 +15,7 @@ use Rattle.calculus.specs.Emit.{Program, _>>=_, attempt}
 use Rattle.calculus.specs.Calls.{emitTake, emitMove, emitCover}
 use Rattle.steps.specs.declared.Ran.{Ran}
 use Rattle.steps.specs.declared.Ran.the-variants.{Done, NotBelow, NotImplied, Full}
-use Rattle.steps.specs.Running.{doneBy, stepBy, Runs, Emits}
+use Rattle.steps.specs.Running.{Book, doneBy, stepBy, Runs, Emits}
 use Rattle.steps.specs.Trees.{Is}
 use Rattle.steps.proofs.RunLaws.{runs-below, attempt-done, attempt-failed, attempt-full, Failed, emits-by}
 use Rattle.steps.proofs.TreeLaws.{tree-of}
@@ -31,18 +31,18 @@ use Rattle.search.proofs.CoverLaws.{cover-moves}
 use Rattle.search.proofs.SplitLaws.{is-fand, is-for, Halves, halves, both-are, first-are, second-are}
 
 -- The search is the program of its move.
-pub by-turn : {l l′ : List ℕ} {r : Ran} {G : List Face} {g : Face} {t : Turn} {m : Move} → Turns G g (move G g) t → move G g ≡ m → Runs l (emitMove emitCover G g m) r l′ → Runs l (emitCover G g) r l′
+pub by-turn : {l l′ : Book} {r : Ran} {G : List Face} {g : Face} {t : Turn} {m : Move} → Turns G g (move G g) t → move G g ≡ m → Runs l (emitMove emitCover G g m) r l′ → Runs l (emitCover G g) r l′
 by-turn {l} {l′} {r} {G} {g} v e h = subst (λ (p : Program). Runs l p r l′) (sym (cover-moves G g ∙ ap (emitMove emitCover G g) e)) h
 
 -- The run in a context that was made.
-pub made-runs : {l l′ y z : List ℕ} {r : Ran} (n : ℕ) (g : Face) → z ≡ y → Runs l (emitCover (contextOf n z) g) r l′ → Runs l (emitCover (contextOf n y) g) r l′
+pub made-runs : {l l′ : Book} {y z : List ℕ} {r : Ran} (n : ℕ) (g : Face) → z ≡ y → Runs l (emitCover (contextOf n z) g) r l′ → Runs l (emitCover (contextOf n y) g) r l′
 made-runs {l} {l′} {r = r} n g e h = subst (λ (x : List ℕ). Runs l (emitCover (contextOf n x) g) r l′) e h
 
 -- A run on another context, and on another goal.
-on-context : {l l′ : List ℕ} {r : Ran} {G H : List Face} (g : Face) → G ≡ H → Runs l (emitCover G g) r l′ → Runs l (emitCover H g) r l′
+on-context : {l l′ : Book} {r : Ran} {G H : List Face} (g : Face) → G ≡ H → Runs l (emitCover G g) r l′ → Runs l (emitCover H g) r l′
 on-context {l} {l′} {r} g e h = subst (λ (K : List Face). Runs l (emitCover K g) r l′) e h
 
-on-goal : {l l′ : List ℕ} {r : Ran} (G : List Face) {f g : Face} → f ≡ g → Runs l (emitCover G f) r l′ → Runs l (emitCover G g) r l′
+on-goal : {l l′ : Book} {r : Ran} (G : List Face) {f g : Face} → f ≡ g → Runs l (emitCover G f) r l′ → Runs l (emitCover G g) r l′
 on-goal {l} {l′} {r} G e h = subst (λ (k : Face). Runs l (emitCover G k) r l′) e h
 
 -- Left moves ----------------------------------------------------------------------------------------
@@ -55,7 +55,7 @@ module _ (G : List Face) (g : Face) (b : List Face) (f : Face) (a : List Face) w
   or-split p =
       subst (λ (z : Face). emitMove emitCover G g (splitOf b z a) ≡ after-three (emitTake b z a) (emitCover (p .left ∷ (b ++ a)) g) (emitCover (p .right ∷ (b ++ a)) g) 26 (cover G g)) (sym (p .whole)) refl
 
-module _ {G : List Face} {g : Face} {i place n : ℕ} {x b k : List ℕ} (w : At G i x place n b) (a : Is Faces g k) {l l₁ : List ℕ} {r : Ran} (h : Runs l (leaving i G) r l₁) where
+module _ {G : List Face} {g : Face} {i place n : ℕ} {x b k : List ℕ} (w : At G i x place n b) (a : Is Faces g k) {l l₁ : Book} {r : Ran} (h : Runs l (leaving i G) r l₁) where
   module _ (p : Parts fand (getD G i ff)) where
     both : Program
     both = emitCover (p .left ∷ p .right ∷ leave i G) g
@@ -67,7 +67,7 @@ module _ {G : List Face} {g : Face} {i place n : ℕ} {x b k : List ℕ} (w : At
     pub and-left-stop : doneBy r ≡ false → Runs l (emitMove emitCover G g (splitAt [] G i)) r l₁
     and-left-stop d = two-stop both and-left h d
 
-    module _ (d : doneBy r ≡ true) {l₂ : List ℕ} {s : Ran} (h₂ : Runs l₁ (emitCover (contextOf (n + 1) (tail 1 x ++ cut place (place + length x) b)) g) s l₂) where
+    module _ (d : doneBy r ≡ true) {l₂ : Book} {s : Ran} (h₂ : Runs l₁ (emitCover (contextOf (n + 1) (tail 1 x ++ cut place (place + length x) b)) g) s l₂) where
       left-run : Runs l₁ both s l₂
       unfolding both
       left-run = on-context g (context-of (both-are is-fand w p refl)) h₂
@@ -75,7 +75,7 @@ module _ {G : List Face} {g : Face} {i place n : ℕ} {x b k : List ℕ} (w : At
       pub and-left-stop-2 : doneBy s ≡ false → Runs l (emitMove emitCover G g (splitAt [] G i)) s l₂
       and-left-stop-2 f = two-stop-2 both and-left h d left-run f
 
-      pub and-left-up : {l₃ : List ℕ} {c : Ran} {u v : ℕ} → doneBy s ≡ true → u ≡ stepBy r → v ≡ stepBy s → Emits l₂ 25 (u ∷ v ∷ 0 ∷ []) (operandBytes (cover G g)) c l₃ → Runs l (emitMove emitCover G g (splitAt [] G i)) c l₃
+      pub and-left-up : {l₃ : Book} {c : Ran} {u v : ℕ} → doneBy s ≡ true → u ≡ stepBy r → v ≡ stepBy s → Emits l₂ 25 (u ∷ v ∷ 0 ∷ []) (operandBytes (cover G g)) c l₃ → Runs l (emitMove emitCover G g (splitAt [] G i)) c l₃
       and-left-up f u v t = two-up both and-left h d left-run f u v (Rules.cover-and-left {D = leave i G} {a = p .left} {b = p .right}) (cover-limited (w .whole) a) refl t
 
   module _ (p : Parts for (getD G i ff)) where
@@ -92,7 +92,7 @@ module _ {G : List Face} {g : Face} {i place n : ℕ} {x b k : List ℕ} (w : At
     pub or-left-stop : doneBy r ≡ false → Runs l (emitMove emitCover G g (splitAt [] G i)) r l₁
     or-left-stop d = three-stop one other or-left h d
 
-    module _ (d : doneBy r ≡ true) {m : List ℕ} (q : m ≡ partAt Faces x 1) {l₂ : List ℕ} {s : Ran} (h₂ : Runs l₁ (emitCover (contextOf n (m ++ cut place (place + length x) b)) g) s l₂) where
+    module _ (d : doneBy r ≡ true) {m : List ℕ} (q : m ≡ partAt Faces x 1) {l₂ : Book} {s : Ran} (h₂ : Runs l₁ (emitCover (contextOf n (m ++ cut place (place + length x) b)) g) s l₂) where
       one-run : Runs l₁ one s l₂
       unfolding one
       one-run = on-context g (context-of (first-are is-for w p q)) h₂
@@ -100,7 +100,7 @@ module _ {G : List Face} {g : Face} {i place n : ℕ} {x b k : List ℕ} (w : At
       pub or-left-stop-2 : doneBy s ≡ false → Runs l (emitMove emitCover G g (splitAt [] G i)) s l₂
       or-left-stop-2 f = three-stop-2 one other or-left h d one-run f
 
-      module _ (f : doneBy s ≡ true) {l₃ : List ℕ} {v : Ran} (h₃ : Runs l₂ (emitCover (contextOf n (tail (1 + length m) x ++ cut place (place + length x) b)) g) v l₃) where
+      module _ (f : doneBy s ≡ true) {l₃ : Book} {v : Ran} (h₃ : Runs l₂ (emitCover (contextOf n (tail (1 + length m) x ++ cut place (place + length x) b)) g) v l₃) where
         other-run : Runs l₂ other v l₃
         unfolding other
         other-run = on-context g (context-of (second-are is-for w p q)) h₃
@@ -108,7 +108,7 @@ module _ {G : List Face} {g : Face} {i place n : ℕ} {x b k : List ℕ} (w : At
         pub or-left-stop-3 : doneBy v ≡ false → Runs l (emitMove emitCover G g (splitAt [] G i)) v l₃
         or-left-stop-3 e = three-stop-3 one other or-left h d one-run f other-run e
 
-        pub or-left-up : {l₄ : List ℕ} {c : Ran} {y₁ y₂ y₃ : ℕ} → doneBy v ≡ true → y₁ ≡ stepBy r → y₂ ≡ stepBy s → y₃ ≡ stepBy v → Emits l₃ 26 (y₁ ∷ y₂ ∷ y₃ ∷ []) (operandBytes (cover G g)) c l₄
+        pub or-left-up : {l₄ : Book} {c : Ran} {y₁ y₂ y₃ : ℕ} → doneBy v ≡ true → y₁ ≡ stepBy r → y₂ ≡ stepBy s → y₃ ≡ stepBy v → Emits l₃ 26 (y₁ ∷ y₂ ∷ y₃ ∷ []) (operandBytes (cover G g)) c l₄
             → Runs l (emitMove emitCover G g (splitAt [] G i)) c l₄
         or-left-up e u₁ u₂ u₃ t =
             three-up one other or-left h d one-run f other-run e u₁ u₂ u₃ (Rules.cover-or-left {D = leave i G} {a = p .left} {b = p .right}) (cover-limited (w .whole) a) refl t
@@ -131,7 +131,7 @@ full-is Full e = refl
 not-full : {r : Ran} → doneBy r ≡ false → fullBy r ≡ false → Failed r
 not-full d e = (d, λ f. true≢false (sym (ap fullBy f) ∙ e))
 
-module _ {G : List Face} {g : Face} {n : ℕ} {b y m : List ℕ} (w : Are G n b) (a : Is Faces g y) (q : m ≡ partAt Faces y 1) {l l₁ : List ℕ} {r : Ran} (h : Runs l (emitCover G (treeOf Faces m)) r l₁) where
+module _ {G : List Face} {g : Face} {n : ℕ} {b y m : List ℕ} (w : Are G n b) (a : Is Faces g y) (q : m ≡ partAt Faces y 1) {l l₁ : Book} {r : Ran} (h : Runs l (emitCover G (treeOf Faces m)) r l₁) where
   module _ (p : Parts fand g) where
     both-halves : Halves (p .left) (p .right) y m
     both-halves = halves is-fand a p q
@@ -142,14 +142,14 @@ module _ {G : List Face} {g : Face} {n : ℕ} {b y m : List ℕ} (w : Are G n b)
     pub and-right-stop : doneBy r ≡ false → Runs l (emitMove emitCover G g (tryRight g)) r l₁
     and-right-stop d = two-stop (emitCover G (p .right)) (and-ask G g p) and-first d
 
-    module _ (d : doneBy r ≡ true) {l₂ : List ℕ} {s : Ran} (h₂ : Runs l₁ (emitCover G (treeOf Faces (tail (1 + length m) y))) s l₂) where
+    module _ (d : doneBy r ≡ true) {l₂ : Book} {s : Ran} (h₂ : Runs l₁ (emitCover G (treeOf Faces (tail (1 + length m) y))) s l₂) where
       and-second : Runs l₁ (emitCover G (p .right)) s l₂
       and-second = on-goal G (tree-of (both-halves .second)) h₂
 
       pub and-right-stop-2 : doneBy s ≡ false → Runs l (emitMove emitCover G g (tryRight g)) s l₂
       and-right-stop-2 f = two-stop-2 (emitCover G (p .right)) (and-ask G g p) and-first d and-second f
 
-      pub and-right-up : {l₃ : List ℕ} {c : Ran} {u v : ℕ} → doneBy s ≡ true → u ≡ stepBy r → v ≡ stepBy s → Emits l₂ 27 (u ∷ v ∷ 0 ∷ []) (operandBytes (cover G g)) c l₃ → Runs l (emitMove emitCover G g (tryRight g)) c l₃
+      pub and-right-up : {l₃ : Book} {c : Ran} {u v : ℕ} → doneBy s ≡ true → u ≡ stepBy r → v ≡ stepBy s → Emits l₂ 27 (u ∷ v ∷ 0 ∷ []) (operandBytes (cover G g)) c l₃ → Runs l (emitMove emitCover G g (tryRight g)) c l₃
       and-right-up f u v t =
           two-up (emitCover G (p .right)) (and-ask G g p) and-first d and-second f u v
           (subst (λ (z : Face). Rules.Rule 27 (cover G (p .left) ∷ cover G (p .right) ∷ []) (cover G z)) (sym (p .whole)) Rules.cover-and-right) (cover-limited w a) refl t
@@ -164,11 +164,11 @@ module _ {G : List Face} {g : Face} {n : ℕ} {b y m : List ℕ} (w : Are G n b)
     second : Program
     second = emitCover G (p .right) >>= after 29 (cover G g)
 
-    asked : {l₂ : List ℕ} {c : Ran} → Runs l (attempt (emitCover G (p .left)) (after 28 (cover G g)) second) c l₂ → Runs l (emitMove emitCover G g (tryRight g)) c l₂
+    asked : {l₂ : Book} {c : Ran} → Runs l (attempt (emitCover G (p .left)) (after 28 (cover G g)) second) c l₂ → Runs l (emitMove emitCover G g (tryRight g)) c l₂
     unfolding second
     asked {l₂} {c} v = subst (λ (t : Program). Runs l t c l₂) (sym (or-ask G g p)) v
 
-    pub or-right-up : {l₂ : List ℕ} {c : Ran} {u : ℕ} → doneBy r ≡ true → u ≡ stepBy r → Emits l₁ 28 (u ∷ 0 ∷ 0 ∷ []) (operandBytes (cover G g)) c l₂ → Runs l (emitMove emitCover G g (tryRight g)) c l₂
+    pub or-right-up : {l₂ : Book} {c : Ran} {u : ℕ} → doneBy r ≡ true → u ≡ stepBy r → Emits l₁ 28 (u ∷ 0 ∷ 0 ∷ []) (operandBytes (cover G g)) c l₂ → Runs l (emitMove emitCover G g (tryRight g)) c l₂
     or-right-up {l₂} {c} d u t =
         let v : Emits l₁ 28 (stepBy r ∷ 0 ∷ 0 ∷ []) (operandBytes (cover G g)) c l₂ = subst (λ (z : ℕ). Emits l₁ 28 (z ∷ 0 ∷ 0 ∷ []) (operandBytes (cover G g)) c l₂) u t in
         let j : Rules.Rule 28 (cover G (p .left) ∷ []) (cover G g) = subst (λ (z : Face). Rules.Rule 28 (cover G (p .left) ∷ []) (cover G z)) (sym (p .whole)) Rules.cover-or-right0 in
@@ -180,7 +180,7 @@ module _ {G : List Face} {g : Face} {n : ℕ} {b y m : List ℕ} (w : Are G n b)
         asked (subst (λ (c : Ran). Runs l (attempt (emitCover G (p .left)) (after 28 (cover G g)) second) c l₁) (sym f)
         (attempt-full (after 28 (cover G g)) second (subst (λ (c : Ran). Runs l (emitCover G (p .left)) c l₁) f or-first)))
 
-    module _ (d : doneBy r ≡ false) (e : fullBy r ≡ false) {l₂ : List ℕ} {s : Ran} (h₂ : Runs l₁ (emitCover G (treeOf Faces (tail (1 + length m) y))) s l₂) where
+    module _ (d : doneBy r ≡ false) (e : fullBy r ≡ false) {l₂ : Book} {s : Ran} (h₂ : Runs l₁ (emitCover G (treeOf Faces (tail (1 + length m) y))) s l₂) where
       or-second : Runs l₁ (emitCover G (p .right)) s l₂
       or-second = on-goal G (tree-of (either .second)) h₂
 
@@ -188,7 +188,7 @@ module _ {G : List Face} {g : Face} {n : ℕ} {b y m : List ℕ} (w : Are G n b)
       unfolding second
       or-right-stop f = asked (attempt-failed (after 28 (cover G g)) second or-first (not-full d e) (after-stop {kind = 29} {j = cover G g} refl or-second f))
 
-      pub or-right-up-2 : {l₃ : List ℕ} {c : Ran} {u : ℕ} → doneBy s ≡ true → u ≡ stepBy s → Emits l₂ 29 (u ∷ 0 ∷ 0 ∷ []) (operandBytes (cover G g)) c l₃ → Runs l (emitMove emitCover G g (tryRight g)) c l₃
+      pub or-right-up-2 : {l₃ : Book} {c : Ran} {u : ℕ} → doneBy s ≡ true → u ≡ stepBy s → Emits l₂ 29 (u ∷ 0 ∷ 0 ∷ []) (operandBytes (cover G g)) c l₃ → Runs l (emitMove emitCover G g (tryRight g)) c l₃
       unfolding second
       or-right-up-2 f u t =
           let j : Rules.Rule 29 (cover G (p .right) ∷ []) (cover G g) = subst (λ (z : Face). Rules.Rule 29 (cover G (p .right) ∷ []) (cover G z)) (sym (p .whole)) Rules.cover-or-right1 in

@@ -6,9 +6,12 @@ use Prim.Native.Nat.{ℕ, _<_}
 use lib.ListN.{length, getD, take}
 use Rattle.formula.specs.Formula.{Face, ff, ft, fand, for}
 use Rattle.calculus.specs.Search.{Move, by-top, by-hit, by-absurd, by-clash, stuck, tryRight}
+use Rattle.calculus.specs.Judgement.{Step}
 use Rattle.calculus.specs.Record.{facesBytes}
+use Rattle.index.specs.Index.{Finished}
 use Rattle.steps.specs.declared.Ran.{Ran}
 use Rattle.steps.specs.declared.Ran.the-variants.{Done, NotBelow, NotImplied, Full}
+use Rattle.steps.specs.Running.{doneBy, stepBy}
 use Rattle.contexts.specs.Moves.{splitAt}
 use Rattle.search.specs.declared.turns.Turn.{Turn}
 use Rattle.search.specs.declared.turns.Turn.the-variants.{Top, Hit, Absurd, Opposed, AndLeft, OrLeft, AndRight, OrRight, Stuck}
@@ -19,6 +22,11 @@ fullBy (Done n) = false
 fullBy NotBelow = false
 fullBy NotImplied = false
 fullBy Full = true
+
+-- Where the run is done, the search for its step is finished.
+pub record Ended (L : List Step) (r : Ran) : Type 0 where
+  pub below : doneBy r ≡ true → stepBy r < length L
+  pub finished : doneBy r ≡ true → Finished L (stepBy r)
 
 -- The face is v of two parts; v is fand or for.
 pub record Parts (v : Face → Face → Face) (f : Face) : Type 0 where

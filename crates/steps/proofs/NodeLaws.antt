@@ -23,7 +23,7 @@ use Rattle.calculus.specs.Calls.{side}
 use Rattle.calculus.proofs.Growing.{Limited}
 use Rattle.ledger.specs.Ledger.{stepsOf}
 use Rattle.steps.specs.declared.Ran.{Ran}
-use Rattle.steps.specs.Running.{doneBy, stepBy, Runs, Emits}
+use Rattle.steps.specs.Running.{Book, doneBy, stepBy, Runs, Emits}
 use Rattle.steps.specs.Trees.{Is, Known, Literal}
 use Rattle.steps.proofs.RunLaws.{runs-next, runs-stop, runs-below, runs-more, emits-by}
 use Rattle.steps.proofs.TreeLaws.{View, a-leaf, a-lit, a-one, a-two, view, tree-of, known}
@@ -120,19 +120,19 @@ module _ (s : Sort) (W : Tree s → Program) (J : Tree s → Judgement) (K : ℕ
     law-at : (b : ℕ) (k : Node (Tree s)) → nodeOf s b ≡ k → Law b k
     law-at b k e = subst (Law b) e (each-node s Law laws b)
 
-    pub leaf-runs : {l l′ f x : List ℕ} {r : Ran} {i k z : ℕ} {q : Place} (t : Tree s) → View s f t (Leaf q) → Limited (J t) → operandBytes (J t) ≡ x → Emits l (K (getD f 0 0)) (i ∷ k ∷ z ∷ []) x r l′ → Runs l (W t) r l′
+    pub leaf-runs : {l l′ : Book} {f x : List ℕ} {r : Ran} {i k z : ℕ} {q : Place} (t : Tree s) → View s f t (Leaf q) → Limited (J t) → operandBytes (J t) ≡ x → Emits l (K (getD f 0 0)) (i ∷ k ∷ z ∷ []) x r l′ → Runs l (W t) r l′
     leaf-runs {l} {l′} {x = x} {r} {i} {k} {z} t (a-leaf b t₁ e g) m o h =
         let p = law-at b (leaf t₁) e in
         let h′ : Emits l (K b) (i ∷ k ∷ z ∷ []) x r l′ = subst (λ (n : List ℕ). Emits l (K (getD n 0 0)) (i ∷ k ∷ z ∷ []) x r l′) g h in
         subst (λ (w : Program). Runs l w r l′) (sym (p .0)) (emits-by h′ (p .1) [] refl tt m refl o)
 
     -- The part below a node over one formula, then the step of the whole.
-    pub one-stop : {l l₁ f : List ℕ} {r : Ran} {q : Place} (t : Tree s) → View s f t (One q) → Runs l (W (treeOf s (drop 1 f))) r l₁ → doneBy r ≡ false → Runs l (W t) r l₁
+    pub one-stop : {l l₁ : Book} {f : List ℕ} {r : Ran} {q : Place} (t : Tree s) → View s f t (One q) → Runs l (W (treeOf s (drop 1 f))) r l₁ → doneBy r ≡ false → Runs l (W t) r l₁
     one-stop {l} {l₁} {r = r} t (a-one b u x e g h) k d =
         let k′ : Runs l (W x) r l₁ = subst (λ y. Runs l (W y) r l₁) (tree-of h) k in
         subst (λ (w : Program). Runs l w r l₁) (sym (law-at b (one u) e x .0)) (runs-stop (λ i. emit (K b) (i ∷ []) (J (u x))) k′ d)
 
-    pub one-runs : {l l₁ l₂ f y : List ℕ} {r c : Ran} {i j z : ℕ} {q : Place} (t : Tree s) → View s f t (One q) → Limited (J t) → operandBytes (J t) ≡ y
+    pub one-runs : {l l₁ l₂ : Book} {f y : List ℕ} {r c : Ran} {i j z : ℕ} {q : Place} (t : Tree s) → View s f t (One q) → Limited (J t) → operandBytes (J t) ≡ y
         → Runs l (W (treeOf s (drop 1 f))) r l₁ → doneBy r ≡ true → i ≡ stepBy r → Emits l₁ (K (getD f 0 0)) (i ∷ j ∷ z ∷ []) y c l₂ → Runs l (W t) c l₂
     one-runs {l} {l₁} {l₂} {y = y} {r} {c} {i} {j} {z} t (a-one b u x e g h) m o k d n w =
         let k′ : Runs l (W x) r l₁ = subst (λ y. Runs l (W y) r l₁) (tree-of h) k in
@@ -142,12 +142,12 @@ module _ (s : Sort) (W : Tree s → Program) (J : Tree s → Judgement) (K : ℕ
         (runs-next (λ i. emit (K b) (i ∷ []) (J (u x))) k′ d (emits-by w′ (p .1) (stepBy r ∷ []) refl (runs-below k′ d, tt) m refl o))
 
     -- Both parts below a node over two formulas, left first, then the step of the whole.
-    pub two-stop : {l l₁ f : List ℕ} {r : Ran} {q : Place} (t : Tree s) → View s f t (Two q) → Runs l (W (treeOf s (partAt s f 1))) r l₁ → doneBy r ≡ false → Runs l (W t) r l₁
+    pub two-stop : {l l₁ : Book} {f : List ℕ} {r : Ran} {q : Place} (t : Tree s) → View s f t (Two q) → Runs l (W (treeOf s (partAt s f 1))) r l₁ → doneBy r ≡ false → Runs l (W t) r l₁
     two-stop {l} {l₁} {r = r} t (a-two b v x y e g hx hy j) k d =
         let k′ : Runs l (W x) r l₁ = subst (λ z. Runs l (W z) r l₁) (tree-of hx) k in
         subst (λ (w : Program). Runs l w r l₁) (sym (law-at b (two v) e x y .0)) (runs-stop (λ i. (W y >>= λ k. emit (K b) (i ∷ k ∷ []) (J (v x y)))) k′ d)
 
-    pub two-stop-right : {l l₁ l₂ f : List ℕ} {r c : Ran} {q : Place} (t : Tree s) → View s f t (Two q) → Runs l (W (treeOf s (partAt s f 1))) r l₁ → doneBy r ≡ true
+    pub two-stop-right : {l l₁ l₂ : Book} {f : List ℕ} {r c : Ran} {q : Place} (t : Tree s) → View s f t (Two q) → Runs l (W (treeOf s (partAt s f 1))) r l₁ → doneBy r ≡ true
         → Runs l₁ (W (treeOf s (drop (1 + length (partAt s f 1)) f))) c l₂ → doneBy c ≡ false → Runs l (W t) c l₂
     two-stop-right {l} {l₁} {l₂} {r = r} {c} t (a-two b v x y e g hx hy j) k d n p =
         let k′ : Runs l (W x) r l₁ = subst (λ z. Runs l (W z) r l₁) (tree-of hx) k in
@@ -155,7 +155,7 @@ module _ (s : Sort) (W : Tree s → Program) (J : Tree s → Judgement) (K : ℕ
         subst (λ (w : Program). Runs l w c l₂) (sym (law-at b (two v) e x y .0))
         (runs-next (λ i. (W y >>= λ k. emit (K b) (i ∷ k ∷ []) (J (v x y)))) k′ d (runs-stop (λ m. emit (K b) (stepBy r ∷ m ∷ []) (J (v x y))) n′ p))
 
-    pub two-runs : {l l₁ l₂ l₃ f z : List ℕ} {r c a : Ran} {i m o : ℕ} {q : Place} (t : Tree s) → View s f t (Two q) → Limited (J t) → operandBytes (J t) ≡ z
+    pub two-runs : {l l₁ l₂ l₃ : Book} {f z : List ℕ} {r c a : Ran} {i m o : ℕ} {q : Place} (t : Tree s) → View s f t (Two q) → Limited (J t) → operandBytes (J t) ≡ z
         → Runs l (W (treeOf s (partAt s f 1))) r l₁ → doneBy r ≡ true → Runs l₁ (W (treeOf s (drop (1 + length (partAt s f 1)) f))) c l₂ → doneBy c ≡ true
         → i ≡ stepBy r → m ≡ stepBy c → Emits l₂ (K (getD f 0 0)) (i ∷ m ∷ o ∷ []) z a l₃ → Runs l (W t) a l₃
     two-runs {l} {l₁} {l₂} {l₃} {z = z} {r} {c} {a} {i} {m} {o} t (a-two b v x y e g hx hy j) lim ops k d n p ei em w =
@@ -164,14 +164,14 @@ module _ (s : Sort) (W : Tree s → Program) (J : Tree s → Judgement) (K : ℕ
         let w₁ : Emits l₂ (K b) (stepBy r ∷ m ∷ o ∷ []) z a l₃ = subst₂ (λ (u p : ℕ). Emits l₂ (K u) (p ∷ m ∷ o ∷ []) z a l₃) g ei w in
         let w₂ : Emits l₂ (K b) (stepBy r ∷ stepBy c ∷ o ∷ []) z a l₃ = subst (λ (p : ℕ). Emits l₂ (K b) (stepBy r ∷ p ∷ o ∷ []) z a l₃) em w₁ in
         let q = law-at b (two v) e x y in
-        let below : stepBy r < length (stepsOf l₂) = omega (arith, runs-below k′ d, runs-more n′) in
+        let below : stepBy r < length (stepsOf (l₂ .bytes)) = omega (arith, runs-below k′ d, runs-more n′) in
         subst (λ (w : Program). Runs l w a l₃) (sym (q .0))
         (runs-next (λ i. (W y >>= λ k. emit (K b) (i ∷ k ∷ []) (J (v x y)))) k′ d
         (runs-next (λ m. emit (K b) (stepBy r ∷ m ∷ []) (J (v x y))) n′ p
         (emits-by w₂ (q .1) (stepBy r ∷ stepBy c ∷ []) refl (below, (runs-below n′ p, tt)) lim refl ops)))
 
 -- A run on a part of the bytes, and the rest of them.
-pub part-runs : (s : Sort) {l l₁ x y : List ℕ} {r : Ran} (W : Tree s → Program) → x ≡ y → Runs l (W (treeOf s x)) r l₁ → Runs l (W (treeOf s y)) r l₁
+pub part-runs : (s : Sort) {l l₁ : Book} {x y : List ℕ} {r : Ran} (W : Tree s → Program) → x ≡ y → Runs l (W (treeOf s x)) r l₁ → Runs l (W (treeOf s y)) r l₁
 part-runs s {l} {l₁} {r = r} W e h = subst (λ (z : List ℕ). Runs l (W (treeOf s z)) r l₁) e h
 
 pub rest-of : (f : List ℕ) (m : ℕ) → take (length f - m) (drop m f) ≡ drop m f

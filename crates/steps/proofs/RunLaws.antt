@@ -15,83 +15,87 @@ use Rattle.calculus.proofs.Tables.{rule-listed}
 use Rattle.calculus.proofs.Finding.{find-lowest}
 use Rattle.calculus.proofs.Growing.{Limited, limited-allowed}
 use Rattle.calculus.proofs.Repeating.{Longer, done-longer, stopped-longer, is-full, run-longer}
-use Rattle.ledger.specs.Ledger.{stepsOf, Led}
-use Rattle.emission.specs.Emitting.{Emission, Ran as EmitRan}
+use Rattle.ledger.specs.Ledger.{stepsOf}
+use Rattle.emission.specs.Emitting.{Stands, Emission, Keeps, Ran as EmitRan}
 use Rattle.emission.specs.declared.Emitted.{Emitted}
 use Rattle.emission.specs.declared.Emitted.the-variants.{Step as Number, Full as NoRoom}
-use Rattle.ledger.proofs.LedgerLaws.{holds-steps, holds-led}
+use Rattle.ledger.proofs.LedgerLaws.{holds-steps}
 use Rattle.steps.specs.declared.Ran.{Ran}
 use Rattle.steps.specs.declared.Ran.the-variants.{Done, Full}
-use Rattle.steps.specs.Running.{doneBy, stepBy, failedBy, Leaves, Grew, Ends, Runs, Emits}
+use Rattle.steps.specs.Running.{Book, Kept, doneBy, stepBy, failedBy, Leaves, Grew, Ends, Runs, Emits}
 
 pub true-false : {A : Type 0} → true ≡ false → A
 true-false e = absurd (let z : _≡_ {A = ℕ} 0 1 = cc in omega arith)
 
 -- How a run ended, by what was answered ---------------------------------------------------------
 
-record IsDone (l : List ℕ) (o : Outcome) (r : Ran) (l′ : List ℕ) : Type 0 where
+record IsDone (l : Book) (o : Outcome) (r : Ran) (l′ : Book) : Type 0 where
   steps : List Step
   ends : o ≡ done (stepBy r) steps
   leaves : Leaves l steps l′
 
-done-of : (l l′ : List ℕ) (r : Ran) (o : Outcome) → Ends l o r l′ → doneBy r ≡ true → IsDone l o r l′
+done-of : (l l′ : Book) (r : Ran) (o : Outcome) → Ends l o r l′ → doneBy r ≡ true → IsDone l o r l′
 done-of l l′ r (done n M) e h = record { steps = M; ends = ap (λ (x : Ran). done (stepBy x) M) (sym (e .0)); leaves = e .1 }
 done-of l l′ r (stopped not-below M) e h = true-false (sym h ∙ ap doneBy (e .0))
 done-of l l′ r (stopped not-implied M) e h = true-false (sym h ∙ ap doneBy (e .0))
 done-of l l′ r full e h = true-false (sym h ∙ ap doneBy (e .0))
 
 -- The ledger after a run is one as long, and holds what was there and more.
-grew : (l l′ : List ℕ) (r : Ran) (o : Outcome) → Longer (stepsOf l) o → Ends l o r l′ → Grew l l′
+grew : (l l′ : Book) (r : Ran) (o : Outcome) → Longer (stepsOf (l .bytes)) o → Ends l o r l′ → Grew l l′
 grew l l′ r (done n M) (done-longer x) e = record { more = x .more; leaves = subst (λ (N : List Step). Leaves l N l′) (x .whole) (e .1) }
 grew l l′ r (stopped f M) (stopped-longer x) e = record { more = x .more; leaves = subst (λ (N : List Step). Leaves l N l′) (x .whole) (e .1) }
 grew l l′ r full is-full e = e .1
 
-module _ {l l₁ : List ℕ} {p : Program} {r : Ran} (h : Runs l p r l₁) where
+module _ {l l₁ : Book} {p : Program} {r : Ran} (h : Runs l p r l₁) where
   pub runs-grew : Grew l l₁
-  runs-grew = grew l l₁ r (run (within (length l)) p (stepsOf l)) (run-longer (within (length l)) p (stepsOf l)) (h .ends)
+  runs-grew = grew l l₁ r (run (within (length (l .bytes))) p (stepsOf (l .bytes))) (run-longer (within (length (l .bytes))) p (stepsOf (l .bytes))) (h .ends)
 
-  pub runs-led : Led l₁
-  runs-led = holds-led (runs-grew .leaves .holds)
+  -- A run that is done, over the steps that it left.
+  pub runs-done : doneBy r ≡ true → run (within (length (l .bytes))) p (stepsOf (l .bytes)) ≡ done (stepBy r) (stepsOf (l₁ .bytes))
+  runs-done d = let i = done-of l l₁ r (run (within (length (l .bytes))) p (stepsOf (l .bytes))) (h .ends) d in i .ends ∙ ap (done (stepBy r)) (sym (holds-steps (i .leaves .holds)))
 
-  pub runs-long : length l₁ ≡ length l
+  pub runs-led : Kept l₁
+  runs-led = runs-grew .leaves .kept
+
+  pub runs-long : length (l₁ .bytes) ≡ length (l .bytes)
   runs-long = runs-grew .leaves .long
 
-  pub runs-more : length (stepsOf l) ≤ length (stepsOf l₁)
-  runs-more = omega (arith, ap length (holds-steps (runs-grew .leaves .holds)), length-append (stepsOf l) (runs-grew .more))
+  pub runs-more : length (stepsOf (l .bytes)) ≤ length (stepsOf (l₁ .bytes))
+  runs-more = omega (arith, ap length (holds-steps (runs-grew .leaves .holds)), length-append (stepsOf (l .bytes)) (runs-grew .more))
 
 -- One after another -----------------------------------------------------------------------------
 
-grew-trans : (l l₁ l₂ : List ℕ) → Grew l l₁ → Grew l₁ l₂ → Grew l l₂
+grew-trans : (l l₁ l₂ : Book) → Grew l l₁ → Grew l₁ l₂ → Grew l l₂
 grew-trans l l₁ l₂ g k =
-    let e : stepsOf l₁ ++ k .more ≡ stepsOf l ++ (g .more ++ k .more) = ap (λ (M : List Step). M ++ k .more) (holds-steps (g .leaves .holds)) ∙ append-assoc (stepsOf l) (g .more) (k .more) in
-    record { more = g .more ++ k .more; leaves = record { long = k .leaves .long ∙ g .leaves .long; holds = subst (λ (M : List Step). Holds l₂ M) e (k .leaves .holds) } }
+    let e : stepsOf (l₁ .bytes) ++ k .more ≡ stepsOf (l .bytes) ++ (g .more ++ k .more) = ap (λ (M : List Step). M ++ k .more) (holds-steps (g .leaves .holds)) ∙ append-assoc (stepsOf (l .bytes)) (g .more) (k .more) in
+    record { more = g .more ++ k .more; leaves = record { long = k .leaves .long ∙ g .leaves .long; holds = subst (λ (M : List Step). Holds (l₂ .bytes) M) e (k .leaves .holds); kept = k .leaves .kept } }
 
-farther : (l l₁ l₂ : List ℕ) (s : Ran) → Grew l l₁ → (o : Outcome) → Ends l₁ o s l₂ → Ends l o s l₂
-farther l l₁ l₂ s g (done n M) e = (e .0, record { long = e .1 .long ∙ g .leaves .long; holds = e .1 .holds })
-farther l l₁ l₂ s g (stopped f M) e = (e .0, record { long = e .1 .long ∙ g .leaves .long; holds = e .1 .holds })
+farther : (l l₁ l₂ : Book) (s : Ran) → Grew l l₁ → (o : Outcome) → Ends l₁ o s l₂ → Ends l o s l₂
+farther l l₁ l₂ s g (done n M) e = (e .0, record { long = e .1 .long ∙ g .leaves .long; holds = e .1 .holds; kept = e .1 .kept })
+farther l l₁ l₂ s g (stopped f M) e = (e .0, record { long = e .1 .long ∙ g .leaves .long; holds = e .1 .holds; kept = e .1 .kept })
 farther l l₁ l₂ s g full e = (e .0, grew-trans l l₁ l₂ g (e .1))
 
 -- The run of q on the ledger that holds M is its run on M.
-on-steps : (l l₁ l₂ : List ℕ) (s : Ran) (M : List Step) (q : Program) → Leaves l M l₁ → Grew l l₁ → Runs l₁ q s l₂ → Ends l (run (within (length l)) q M) s l₂
+on-steps : (l l₁ l₂ : Book) (s : Ran) (M : List Step) (q : Program) → Leaves l M l₁ → Grew l l₁ → Runs l₁ q s l₂ → Ends l (run (within (length (l .bytes))) q M) s l₂
 on-steps l l₁ l₂ s M q v g h =
-    farther l l₁ l₂ s g (run (within (length l)) q M) (subst₂ (λ (n : ℕ) (N : List Step). Ends l₁ (run (within n) q N) s l₂) (v .long) (holds-steps (v .holds)) (h .ends))
+    farther l l₁ l₂ s g (run (within (length (l .bytes))) q M) (subst₂ (λ (n : ℕ) (N : List Step). Ends l₁ (run (within n) q N) s l₂) (v .long) (holds-steps (v .holds)) (h .ends))
 
 -- A program after one that is done.
-pub runs-next : {l l₁ l₂ : List ℕ} {p : Program} {r s : Ran} (q : ℕ → Program) → Runs l p r l₁ → doneBy r ≡ true → Runs l₁ (q (stepBy r)) s l₂ → Runs l (p >>= q) s l₂
+pub runs-next : {l l₁ l₂ : Book} {p : Program} {r s : Ran} (q : ℕ → Program) → Runs l p r l₁ → doneBy r ≡ true → Runs l₁ (q (stepBy r)) s l₂ → Runs l (p >>= q) s l₂
 unfolding run
 runs-next {l} {l₁} {l₂} {p} {r} {s} q h d k =
-    let i = done-of l l₁ r (run (within (length l)) p (stepsOf l)) (h .ends) d in
+    let i = done-of l l₁ r (run (within (length (l .bytes))) p (stepsOf (l .bytes))) (h .ends) d in
     record { ends = rw (i .ends) (on-steps l l₁ l₂ s (i .steps) (q (stepBy r)) (i .leaves) (runs-grew h) k) }
 
 -- Where the first is not done, nothing follows it.
-ends-stop : (l l₁ : List ℕ) (r : Ran) (k : ℕ → List Step → Outcome) (o : Outcome) → Ends l o r l₁ → doneBy r ≡ false → Ends l (next o k) r l₁
+ends-stop : (l l₁ : Book) (r : Ran) (k : ℕ → List Step → Outcome) (o : Outcome) → Ends l o r l₁ → doneBy r ≡ false → Ends l (next o k) r l₁
 ends-stop l l₁ r k (done n M) e d = true-false (sym (ap doneBy (e .0)) ∙ d)
 ends-stop l l₁ r k (stopped f M) e d = e
 ends-stop l l₁ r k full e d = e
 
-pub runs-stop : {l l₁ : List ℕ} {p : Program} {r : Ran} (q : ℕ → Program) → Runs l p r l₁ → doneBy r ≡ false → Runs l (p >>= q) r l₁
+pub runs-stop : {l l₁ : Book} {p : Program} {r : Ran} (q : ℕ → Program) → Runs l p r l₁ → doneBy r ≡ false → Runs l (p >>= q) r l₁
 unfolding run
-runs-stop {l} {l₁} {p} {r} q h d = record { ends = ends-stop l l₁ r (λ n. run (within (length l)) (q n)) (run (within (length l)) p (stepsOf l)) (h .ends) d }
+runs-stop {l} {l₁} {p} {r} q h d = record { ends = ends-stop l l₁ r (λ n. run (within (length (l .bytes))) (q n)) (run (within (length (l .bytes))) p (stepsOf (l .bytes))) (h .ends) d }
 
 -- A number that is answered is that of a step -----------------------------------------------------
 
@@ -125,36 +129,36 @@ run-below room (emit k is j) L = emitted-below room L (record { kind = k; refere
 run-below room (p >>= q) L = next-below (run room p L) (λ n. run room (q n)) (λ n M. run-below room (q n) M)
 run-below room (attempt p q t) L = instead-below (run room p L) (λ n. run room (q n)) (run room t) (λ n M. run-below room (q n) M) (run-below room t)
 
-pub runs-below : {l l₁ : List ℕ} {p : Program} {r : Ran} → Runs l p r l₁ → doneBy r ≡ true → stepBy r < length (stepsOf l₁)
+pub runs-below : {l l₁ : Book} {p : Program} {r : Ran} → Runs l p r l₁ → doneBy r ≡ true → stepBy r < length (stepsOf (l₁ .bytes))
 runs-below {l} {l₁} {p} {r} h d =
-    let i = done-of l l₁ r (run (within (length l)) p (stepsOf l)) (h .ends) d in
-    omega (arith, subst Below (i .ends) (run-below (within (length l)) p (stepsOf l)), ap length (holds-steps (i .leaves .holds)))
+    let i = done-of l l₁ r (run (within (length (l .bytes))) p (stepsOf (l .bytes))) (h .ends) d in
+    omega (arith, subst Below (i .ends) (run-below (within (length (l .bytes))) p (stepsOf (l .bytes))), ap length (holds-steps (i .leaves .holds)))
 
 -- One program, and another where it stops -----------------------------------------------------------
 
 abbrev pub Failed : Ran → Type 0
 Failed r = (doneBy r ≡ false) × (r ≡ Full → ⊥)
 
-pub attempt-done : {l l₁ l₂ : List ℕ} {p : Program} {r s : Ran} (q : ℕ → Program) (t : Program) → Runs l p r l₁ → doneBy r ≡ true → Runs l₁ (q (stepBy r)) s l₂ → Runs l (attempt p q t) s l₂
+pub attempt-done : {l l₁ l₂ : Book} {p : Program} {r s : Ran} (q : ℕ → Program) (t : Program) → Runs l p r l₁ → doneBy r ≡ true → Runs l₁ (q (stepBy r)) s l₂ → Runs l (attempt p q t) s l₂
 unfolding run
 attempt-done {l} {l₁} {l₂} {p} {r} {s} q t h d k =
-    let i = done-of l l₁ r (run (within (length l)) p (stepsOf l)) (h .ends) d in
+    let i = done-of l l₁ r (run (within (length (l .bytes))) p (stepsOf (l .bytes))) (h .ends) d in
     record { ends = rw (i .ends) (on-steps l l₁ l₂ s (i .steps) (q (stepBy r)) (i .leaves) (runs-grew h) k) }
 
-pub attempt-failed : {l l₁ l₂ : List ℕ} {p : Program} {r s : Ran} (q : ℕ → Program) (t : Program) → Runs l p r l₁ → Failed r → Runs l₁ t s l₂ → Runs l (attempt p q t) s l₂
+pub attempt-failed : {l l₁ l₂ : Book} {p : Program} {r s : Ran} (q : ℕ → Program) (t : Program) → Runs l p r l₁ → Failed r → Runs l₁ t s l₂ → Runs l (attempt p q t) s l₂
 unfolding run
-attempt-failed {l} {l₁} {l₂} {p} {r} {s} q t h f k = record { ends = go (run (within (length l)) p (stepsOf l)) (h .ends) }
+attempt-failed {l} {l₁} {l₂} {p} {r} {s} q t h f k = record { ends = go (run (within (length (l .bytes))) p (stepsOf (l .bytes))) (h .ends) }
   where
-    go : (o : Outcome) → Ends l o r l₁ → Ends l (instead o (λ n. run (within (length l)) (q n)) (run (within (length l)) t)) s l₂
+    go : (o : Outcome) → Ends l o r l₁ → Ends l (instead o (λ n. run (within (length (l .bytes))) (q n)) (run (within (length (l .bytes))) t)) s l₂
     go (done n M) e = true-false (sym (ap doneBy (e .0)) ∙ f .0)
     go (stopped x M) e = on-steps l l₁ l₂ s M t (e .1) (runs-grew h) k
     go full e = absurd (f .1 (e .0))
 
-pub attempt-full : {l l₁ : List ℕ} {p : Program} (q : ℕ → Program) (t : Program) → Runs l p Full l₁ → Runs l (attempt p q t) Full l₁
+pub attempt-full : {l l₁ : Book} {p : Program} (q : ℕ → Program) (t : Program) → Runs l p Full l₁ → Runs l (attempt p q t) Full l₁
 unfolding run
-attempt-full {l} {l₁} {p} q t h = record { ends = go (run (within (length l)) p (stepsOf l)) (h .ends) }
+attempt-full {l} {l₁} {p} q t h = record { ends = go (run (within (length (l .bytes))) p (stepsOf (l .bytes))) (h .ends) }
   where
-    go : (o : Outcome) → Ends l o Full l₁ → Ends l (instead o (λ n. run (within (length l)) (q n)) (run (within (length l)) t)) Full l₁
+    go : (o : Outcome) → Ends l o Full l₁ → Ends l (instead o (λ n. run (within (length (l .bytes))) (q n)) (run (within (length (l .bytes))) t)) Full l₁
     go (done n M) e = absurd (let z : _≡_ {A = ℕ} 0 1 = cc in omega arith)
     go (stopped not-below M) e = absurd (let z : _≡_ {A = ℕ} 0 1 = cc in omega arith)
     go (stopped not-implied M) e = absurd (let z : _≡_ {A = ℕ} 0 1 = cc in omega arith)
@@ -162,54 +166,64 @@ attempt-full {l} {l₁} {p} q t h = record { ends = go (run (within (length l)) 
 
 -- Stopping, and emitting a step ---------------------------------------------------------------------
 
-pub runs-failure : {l : List ℕ} → Led l → (f : Failure) → Runs l (stop f) (failedBy f) l
+pub runs-failure : {l : Book} → Kept l → (f : Failure) → Runs l (stop f) (failedBy f) l
 unfolding run
-runs-failure h f = record { ends = (refl, record { long = refl; holds = h }) }
+runs-failure h f = record { ends = (refl, record { long = refl; holds = h .led; kept = h }) }
 
 -- The step of a judgement that keeps the limits, from references that are there.
-pub emits-as : {l l′ : List ℕ} {kind : ℕ} {references operands : List ℕ} {r : Ran} → Emits l kind references operands r l′
-    → (is : List ℕ) (j : Judgement) → Listed kind (length is) (predicate j) → AllBelow (length (stepsOf l)) is → Limited j → take (length is) references ≡ is → operandBytes j ≡ operands
+pub emits-as : {l l′ : Book} {kind : ℕ} {references operands : List ℕ} {r : Ran} → Emits l kind references operands r l′
+    → (is : List ℕ) (j : Judgement) → Listed kind (length is) (predicate j) → AllBelow (length (stepsOf (l .bytes))) is → Limited j → take (length is) references ≡ is → operandBytes j ≡ operands
     → Runs l (emit kind is j) r l′
 emits-as {kind} h is j k b m t e =
     h .rule (record { kind = kind; references = is; judgement = j }) (record { listed = k; earlier = b; limits = limited-allowed j m }) (record { kinds = refl; refers = sym t; judges = e })
 
 -- The emit rule of the ledger as a run.
-module _ (l l′ : List ℕ) (led : Led l) where
-  emitted-number : (o : Outcome) (i : ℕ) → EmitRan l o (Number i) l′ → Ends l o (Done i) l′
-  emitted-number (done n M) i e = (ap Done (e .0), record { long = e .1; holds = e .2 })
-  emitted-number (stopped f M) i e = absurd e
-  emitted-number full i e = absurd e
+module _ (l l′ : Book) (start : Kept l) where
+  emitted-number : (o : Outcome) (i : ℕ) → Kept l′ → EmitRan (l .bytes) o (Number i) (l′ .bytes) → Ends l o (Done i) l′
+  emitted-number (done n M) i k e = (ap Done (e .0), record { long = e .1; holds = e .2; kept = k })
+  emitted-number (stopped f M) i k e = absurd e
+  emitted-number full i k e = absurd e
 
-  emitted-full : (o : Outcome) → EmitRan l o NoRoom l′ → Ends l o Full l′
-  emitted-full (done n M) e = absurd e
-  emitted-full (stopped f M) e = absurd e
-  emitted-full full e = (refl, record { more = []; leaves = record { long = ap length e; holds = subst₂ Holds (sym e) (sym (append-nil (stepsOf l))) led } })
+  emitted-full : (o : Outcome) → Kept l′ → EmitRan (l .bytes) o NoRoom (l′ .bytes) → Ends l o Full l′
+  emitted-full (done n M) k e = absurd e
+  emitted-full (stopped f M) k e = absurd e
+  emitted-full full k e = (refl, record { more = []; leaves = record { long = ap length e; holds = subst₂ Holds (sym e) (sym (append-nil (stepsOf (l .bytes)))) (start .led); kept = k } })
 
-  module _ (kind : ℕ) (references operands given : List ℕ) (same : given ≡ operands) where
-    pub emits-number : (x : Emitted) (i : ℕ) → x ≡ Number i → Emission l kind references given x l′ → Emits l kind references operands (Done i) l′
-    emits-number x i e g = let h = subst (λ (y : Emitted). Emission l kind references given y l′) e g in record { rule = λ s f t. record { ends = emitted-number (run (within (length l)) (emit (s .kind) (s .references) (s .judgement)) (stepsOf l)) i (h s f (record { kinds = t .kinds; refers = t .refers; judges = t .judges ∙ sym same })) } }
+  module _ (kind : ℕ) (references operands given : List ℕ) (same : given ≡ operands) (keeps : Keeps (l .bytes) kind references given (l′ .bytes) (l′ .numbers)) where
+    pub emits-number : (x : Emitted) (i : ℕ) → x ≡ Number i → Emission (l .bytes) kind references given x (l′ .bytes) → Emits l kind references operands (Done i) l′
+    emits-number x i e g =
+        let h = subst (λ (y : Emitted). Emission (l .bytes) kind references given y (l′ .bytes)) e g in
+        record {
+          rule = λ s f t. let u : Stands s kind (take (length (s .references)) references) given = record { kinds = t .kinds; refers = t .refers; judges = t .judges ∙ sym same } in
+              record { ends = emitted-number (run (within (length (l .bytes))) (emit (s .kind) (s .references) (s .judgement)) (stepsOf (l .bytes))) i (keeps s f u) (h s f u) };
+        }
 
-    pub emits-full : (x : Emitted) → x ≡ NoRoom → Emission l kind references given x l′ → Emits l kind references operands Full l′
-    emits-full x e g = let h = subst (λ (y : Emitted). Emission l kind references given y l′) e g in record { rule = λ s f t. record { ends = emitted-full (run (within (length l)) (emit (s .kind) (s .references) (s .judgement)) (stepsOf l)) (h s f (record { kinds = t .kinds; refers = t .refers; judges = t .judges ∙ sym same })) } }
+    pub emits-full : (x : Emitted) → x ≡ NoRoom → Emission (l .bytes) kind references given x (l′ .bytes) → Emits l kind references operands Full l′
+    emits-full x e g =
+        let h = subst (λ (y : Emitted). Emission (l .bytes) kind references given y (l′ .bytes)) e g in
+        record {
+          rule = λ s f t. let u : Stands s kind (take (length (s .references)) references) given = record { kinds = t .kinds; refers = t .refers; judges = t .judges ∙ sym same } in
+              record { ends = emitted-full (run (within (length (l .bytes))) (emit (s .kind) (s .references) (s .judgement)) (stepsOf (l .bytes))) (keeps s f u) (h s f u) };
+        }
 
-pub emits-same : {l l′ : List ℕ} {kind : ℕ} {references x y : List ℕ} {r : Ran} → x ≡ y → Emits l kind references x r l′ → Emits l kind references y r l′
+pub emits-same : {l l′ : Book} {kind : ℕ} {references x y : List ℕ} {r : Ran} → x ≡ y → Emits l kind references x r l′ → Emits l kind references y r l′
 emits-same {l} {l′} {kind} {references} {r} e h = subst (λ (z : List ℕ). Emits l kind references z r l′) e h
 
 -- By a rule from judgements as many as the references.
-pub emits-by : {l l′ : List ℕ} {kind : ℕ} {references operands : List ℕ} {r : Ran} → Emits l kind references operands r l′
-    → {ps : List Judgement} {j : Judgement} → Rule kind ps j → (is : List ℕ) → length is ≡ length ps → AllBelow (length (stepsOf l)) is → Limited j → take (length is) references ≡ is → operandBytes j ≡ operands
+pub emits-by : {l l′ : Book} {kind : ℕ} {references operands : List ℕ} {r : Ran} → Emits l kind references operands r l′
+    → {ps : List Judgement} {j : Judgement} → Rule kind ps j → (is : List ℕ) → length is ≡ length ps → AllBelow (length (stepsOf (l .bytes))) is → Limited j → take (length is) references ≡ is → operandBytes j ≡ operands
     → Runs l (emit kind is j) r l′
 emits-by {kind} h {j} q is n b m t e = emits-as h is j (subst (λ (k : ℕ). Listed kind k (predicate j)) (sym n) (rule-listed q)) b m t e
 
-pub emits-kind : {l l′ : List ℕ} {kind k : ℕ} {references x : List ℕ} {r : Ran} → kind ≡ k → Emits l kind references x r l′ → Emits l k references x r l′
+pub emits-kind : {l l′ : Book} {kind k : ℕ} {references x : List ℕ} {r : Ran} → kind ≡ k → Emits l kind references x r l′ → Emits l k references x r l′
 emits-kind {l} {l′} {references = references} {x} {r} e h = subst (λ (n : ℕ). Emits l n references x r l′) e h
 
 -- The first of several rules.
-pub emits-first : {l l′ : List ℕ} {references x : List ℕ} {r : Ran} (kind : ℕ) → Emits l (kind + 0) references x r l′ → Emits l kind references x r l′
+pub emits-first : {l l′ : Book} {references x : List ℕ} {r : Ran} (kind : ℕ) → Emits l (kind + 0) references x r l′ → Emits l kind references x r l′
 emits-first kind h = let z : kind + 0 ≡ kind = omega arith in emits-kind z h
 
 -- A step after one run, from the step of that run.
-pub runs-emit : {l l₁ l₂ x : List ℕ} {p : Program} {r c : Ran} {kind i j z : ℕ} → Runs l p r l₁ → doneBy r ≡ true → i ≡ stepBy r → Emits l₁ kind (i ∷ j ∷ z ∷ []) x c l₂
+pub runs-emit : {l l₁ l₂ : Book} {x : List ℕ} {p : Program} {r c : Ran} {kind i j z : ℕ} → Runs l p r l₁ → doneBy r ≡ true → i ≡ stepBy r → Emits l₁ kind (i ∷ j ∷ z ∷ []) x c l₂
     → {q t : Judgement} → Rule kind (q ∷ []) t → Limited t → operandBytes t ≡ x → Runs l (p >>= λ n. emit kind (n ∷ []) t) c l₂
 runs-emit {l₁ = l₁} {l₂} {x} {r = r} {c} {kind} {j = j} {z} h d e w {t = t} rule m o =
     let w′ : Emits l₁ kind (stepBy r ∷ j ∷ z ∷ []) x c l₂ = subst (λ (n : ℕ). Emits l₁ kind (n ∷ j ∷ z ∷ []) x c l₂) e w in

@@ -10,6 +10,7 @@ use Rattle.calculus.specs.Emit.{Failure, not-below, not-implied, Program, emit,
 use Rattle.calculus.specs.Calls.{Order, less, atMost}
 use Rattle.ledger.specs.Ledger.{stepsOf}
 use Rattle.emission.specs.Emitting.{Stands}
+use Rattle.index.specs.Index.{Indexed}
 use Rattle.steps.specs.declared.Ran.{Ran}
 use Rattle.steps.specs.declared.Ran.the-variants.{Done, NotBelow, NotImplied, Full}
 
@@ -32,29 +33,48 @@ abbrev pub failedBy : Failure → Ran
 failedBy not-below = NotBelow
 failedBy not-implied = NotImplied
 
--- A ledger as long as l that holds these steps.
-pub record Leaves (l : List ℕ) (M : List Step) (l′ : List ℕ) : Type 0 where
-  pub long : length l′ ≡ length l
-  pub holds : Holds l′ M
+-- The bytes of a ledger and the numbers of its index.
+pub record Book : Type 0 where
+  pub bytes : List ℕ
+  pub numbers : List ℕ
+
+abbrev pub book : List ℕ → List ℕ → Book
+book l x = record { bytes = l; numbers = x }
+
+-- The numbers are the index of the ledger.
+abbrev pub Kept : Book → Type 0
+Kept l = Indexed (l .bytes) (l .numbers)
+
+-- A ledger as long as l that holds these steps, with its index.
+pub record Leaves (l : Book) (M : List Step) (l′ : Book) : Type 0 where
+  pub long : length (l′ .bytes) ≡ length (l .bytes)
+  pub holds : Holds (l′ .bytes) M
+  pub kept : Kept l′
 
 -- A ledger that ran out of room: it holds the steps of l and more.
-pub record Grew (l l′ : List ℕ) : Type 0 where
+pub record Grew (l l′ : Book) : Type 0 where
   pub more : List Step
-  pub leaves : Leaves l (stepsOf l ++ more) l′
+  pub leaves : Leaves l (stepsOf (l .bytes) ++ more) l′
 
 -- The answer and the bytes of an outcome.
-abbrev pub Ends : List ℕ → Outcome → Ran → List ℕ → Type 0
+abbrev pub Ends : Book → Outcome → Ran → Book → Type 0
 Ends l (done n M) r l′ = (r ≡ Done n) × Leaves l M l′
 Ends l (stopped e M) r l′ = (r ≡ failedBy e) × Leaves l M l′
 Ends l full r l′ = (r ≡ Full) × Grew l l′
 
 -- The answer and the bytes of a program's run over the steps of l, with the room that l has.
-pub record Runs (l : List ℕ) (p : Program) (r : Ran) (l′ : List ℕ) : Type 0 where
-  pub ends : Ends l (run (within (length l)) p (stepsOf l)) r l′
+pub record Runs (l : Book) (p : Program) (r : Ran) (l′ : Book) : Type 0 where
+  pub ends : Ends l (run (within (length (l .bytes))) p (stepsOf (l .bytes))) r l′
+
+-- The same of the bytes alone, with some index beside them.
+pub record RunsOn (l : List ℕ) (p : Program) (r : Ran) (l′ : List ℕ) : Type 0 where
+  pub before : List ℕ
+  pub after : List ℕ
+  pub runs : Runs (book l before) p r (book l′ after)
 
 -- The emit rule for every step that the bytes stand for.
-pub record Emits (l : List ℕ) (kind : ℕ) (references operands : List ℕ) (r : Ran) (l′ : List ℕ) : Type 0 where
-  pub rule : (s : Step) → FormedStep (length (stepsOf l)) s → Stands s kind (take (length (s .references)) references) operands
+pub record Emits (l : Book) (kind : ℕ) (references operands : List ℕ) (r : Ran) (l′ : Book) : Type 0 where
+  pub rule : (s : Step) → FormedStep (length (stepsOf (l .bytes))) s → Stands s kind (take (length (s .references)) references) operands
       → Runs l (emit (s .kind) (s .references) (s .judgement)) r l′
 
 -- The order of a comparison.

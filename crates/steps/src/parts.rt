@@ -5,12 +5,13 @@ ghost use mathlib.Core.Path.{_≡_};
 ghost use mathlib.Core.List.{_++_};
 ghost use Prim.Native.Nat.{_+_, _≤_};
 ghost use lib.ListN.{length, drop};
-ghost use Rattle.ledger.specs.Ledger.{Led};
-ghost use Rattle.steps.specs.Running.{Emits};
+ghost use Rattle.index.specs.Index.{Indexed};
+ghost use Rattle.steps.specs.Running.{book, Emits};
 
 // Emits the step of this kind whose operands are the five parts, one after another; a part may be empty.
 pub fn emit(
     l: &mut [u8],
+    ix: &mut [u32],
     kind: usize,
     references: [usize; 3],
     a: &[u8],
@@ -19,8 +20,8 @@ pub fn emit(
     d: &[u8],
     e: &[u8],
 ) -> Ran
-    requires { ⌜ Led (now l) × (length (now a) + length (now b) + length (now c) + length (now d) + length (now e) ≤ 4096) ⌝ }
-    ensures { λ r. ⌜ Emits (now (l .entry)) kind references (now (a .entry) ++ (now (b .entry) ++ (now (c .entry) ++ (now (d .entry) ++ now (e .entry))))) r (now (l .exit)) ⌝ }
+    requires { ⌜ Indexed (now l) (now ix) × (length (now a) + length (now b) + length (now c) + length (now d) + length (now e) ≤ 4096) ⌝ }
+    ensures { λ r. ⌜ Emits (book (now (l .entry)) (now (ix .entry))) kind references (now (a .entry) ++ (now (b .entry) ++ (now (c .entry) ++ (now (d .entry) ++ now (e .entry))))) r (book (now (l .exit)) (now (ix .exit))) ⌝ }
 {
     let mut operands = [0u8; 4096];
     let i = a.len();
@@ -33,26 +34,41 @@ pub fn emit(
     formula::copy(c, &mut operands, j);
     formula::copy(d, &mut operands, k);
     formula::copy(e, &mut operands, m);
-    match emission::emit_step(l, kind, references, &operands[..n]) {
+    match emission::emit_step(l, ix, kind, references, &operands[..n]) {
         Emitted::Step(i) => Ran::Done(i),
         Emitted::Full => Ran::Full,
     }
 }
 
 // The same with two parts.
-pub fn emit2(l: &mut [u8], kind: usize, references: [usize; 3], a: &[u8], b: &[u8]) -> Ran
-    requires { ⌜ Led (now l) × (length (now a) + length (now b) ≤ 4096) ⌝ }
-    ensures { λ r. ⌜ Emits (now (l .entry)) kind references (now (a .entry) ++ now (b .entry)) r (now (l .exit)) ⌝ }
+pub fn emit2(
+    l: &mut [u8],
+    ix: &mut [u32],
+    kind: usize,
+    references: [usize; 3],
+    a: &[u8],
+    b: &[u8],
+) -> Ran
+    requires { ⌜ Indexed (now l) (now ix) × (length (now a) + length (now b) ≤ 4096) ⌝ }
+    ensures { λ r. ⌜ Emits (book (now (l .entry)) (now (ix .entry))) kind references (now (a .entry) ++ now (b .entry)) r (book (now (l .exit)) (now (ix .exit))) ⌝ }
 {
-    emit(l, kind, references, a, b, &b[..0], &b[..0], &b[..0])
+    emit(l, ix, kind, references, a, b, &b[..0], &b[..0], &b[..0])
 }
 
 // The same with three parts.
-pub fn emit3(l: &mut [u8], kind: usize, references: [usize; 3], a: &[u8], b: &[u8], c: &[u8]) -> Ran
-    requires { ⌜ Led (now l) × (length (now a) + length (now b) + length (now c) ≤ 4096) ⌝ }
-    ensures { λ r. ⌜ Emits (now (l .entry)) kind references (now (a .entry) ++ (now (b .entry) ++ now (c .entry))) r (now (l .exit)) ⌝ }
+pub fn emit3(
+    l: &mut [u8],
+    ix: &mut [u32],
+    kind: usize,
+    references: [usize; 3],
+    a: &[u8],
+    b: &[u8],
+    c: &[u8],
+) -> Ran
+    requires { ⌜ Indexed (now l) (now ix) × (length (now a) + length (now b) + length (now c) ≤ 4096) ⌝ }
+    ensures { λ r. ⌜ Emits (book (now (l .entry)) (now (ix .entry))) kind references (now (a .entry) ++ (now (b .entry) ++ now (c .entry))) r (book (now (l .exit)) (now (ix .exit))) ⌝ }
 {
-    emit(l, kind, references, a, b, c, &c[..0], &c[..0])
+    emit(l, ix, kind, references, a, b, c, &c[..0], &c[..0])
 }
 
 // What stands behind the first byte and a first part of n bytes.

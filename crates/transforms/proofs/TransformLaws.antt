@@ -30,7 +30,7 @@ use Rattle.calculus.proofs.Growing.{Limited}
 use Rattle.calculus.proofs.Calling.{SmallOp, dimTo-small, itransform-dim}
 use Rattle.ledger.specs.Ledger.{stepsOf}
 use Rattle.steps.specs.declared.Ran.{Ran}
-use Rattle.steps.specs.Running.{doneBy, stepBy, Runs, Emits}
+use Rattle.steps.specs.Running.{Book, doneBy, stepBy, Runs, Emits}
 use Rattle.steps.specs.Trees.{Is, Known, Literal}
 use Rattle.transforms.specs.Transforms.{opOf, KnownOp, transformBytes, firstKind, kindGap, transformKind}
 use Rattle.steps.proofs.RunLaws.{emits-by, emits-kind, runs-emit, runs-next, runs-stop, runs-below, runs-more}
@@ -107,12 +107,12 @@ unfolding emitIntervals
 dim-program o n c e = ap (emitDimension o n) e
 
 -- A comparison, then its step.
-pub dim-stop : {l l₁ f : List ℕ} {r : Ran} {n : ℕ} (o : Op) (c : Ordering) (p : Program) (κ : ℕ) → compare n (placeOf o) ≡ c → emitDimension o n c ≡ (p >>= λ i. emit κ (i ∷ []) (transforms Intervals o (dim n)))
+pub dim-stop : {l l₁ : Book} {f : List ℕ} {r : Ran} {n : ℕ} (o : Op) (c : Ordering) (p : Program) (κ : ℕ) → compare n (placeOf o) ≡ c → emitDimension o n c ≡ (p >>= λ i. emit κ (i ∷ []) (transforms Intervals o (dim n)))
     → (t : Interval) → AtDim f n t → Runs l p r l₁ → doneBy r ≡ false → Runs l (emitIntervals o t) r l₁
 dim-stop {l} {l₁} {r = r} {n} o c p κ e g t (at-dim b) h d =
     along (λ (w : Program). Runs l w r l₁) (sym (dim-program o n c e ∙ g)) (runs-stop (λ i. emit κ (i ∷ []) (transforms Intervals o (dim n))) h d)
 
-pub dim-runs : {l l₁ l₂ f x : List ℕ} {r s : Ran} {n i j z : ℕ} (m : ℕ) (a : Asked) (o : Op) (c : Ordering) (p : Program) (κ : ℕ) (q : Judgement) → compare n (placeOf o) ≡ c
+pub dim-runs : {l l₁ l₂ : Book} {f x : List ℕ} {r s : Ran} {n i j z : ℕ} (m : ℕ) (a : Asked) (o : Op) (c : Ordering) (p : Program) (κ : ℕ) (q : Judgement) → compare n (placeOf o) ≡ c
     → emitDimension o n c ≡ (p >>= λ i. emit κ (i ∷ []) (transforms Intervals o (dim n))) → Rule κ (q ∷ []) (transforms Intervals o (dim n)) → transformKind Intervals a 18 + m ≡ κ
     → (t : Interval) → AtDim f n t → Limited (transforms Intervals o t) → operandBytes (transforms Intervals o t) ≡ x → Runs l p r l₁ → doneBy r ≡ true → i ≡ stepBy r
     → Emits l₁ (transformKind Intervals a (getD f 0 0) + m) (i ∷ j ∷ z ∷ []) x s l₂ → Runs l (emitIntervals o t) s l₂
@@ -158,7 +158,7 @@ subst-rule : (k n : ℕ) (t : Interval) → n ≡ k → Rule 59 [] (transforms I
 unfolding itransform
 subst-rule k n t h = rw (h, compare-eq k) Rules.isubst-dim-hit
 
-pub dim-hit : {l l₁ f x : List ℕ} {r : Ran} {n i j z : ℕ} (k : ℕ) (u t : Interval) → n ≡ k → AtDim f n t → Limited (transforms Intervals (subst k u) t) → operandBytes (transforms Intervals (subst k u) t) ≡ x
+pub dim-hit : {l l₁ : Book} {f x : List ℕ} {r : Ran} {n i j z : ℕ} (k : ℕ) (u t : Interval) → n ≡ k → AtDim f n t → Limited (transforms Intervals (subst k u) t) → operandBytes (transforms Intervals (subst k u) t) ≡ x
     → Emits l (transformKind Intervals (DSubst k) (getD f 0 0) + 1) (i ∷ j ∷ z ∷ []) x r l₁ → Runs l (emitIntervals (subst k u) t) r l₁
 dim-hit {l} {l₁} {r = r} {n} k u t h (at-dim b) lim ops w =
     along (λ (w : Program). Runs l w r l₁) (sym (dim-program (subst k u) n Ordering·eq (ap (λ (m : ℕ). compare m k) h ∙ compare-eq k)))
@@ -201,10 +201,10 @@ module _ {f : List ℕ} {n : ℕ} (h : Known Faces f) (k : Literal Faces n f) wh
       → Is Intervals (itransform (opOf a t) (treeOf Intervals x)) (encodeInterval (itransform (opOf a t) (treeOf Intervals x)))
   image-is t a p e i = image-small t a p face-low (face-node e) (treeOf Faces f) face-end i
 
-pub node-runs : {l l₁ x : List ℕ} {r : Ran} {n : ℕ} (o : Op) → Is Intervals (dim n) x → Runs l (emitIntervals o (treeOf Intervals x)) r l₁ → Runs l (emitIntervals o (dim n)) r l₁
+pub node-runs : {l l₁ : Book} {x : List ℕ} {r : Ran} {n : ℕ} (o : Op) → Is Intervals (dim n) x → Runs l (emitIntervals o (treeOf Intervals x)) r l₁ → Runs l (emitIntervals o (dim n)) r l₁
 node-runs {l} {l₁} {r = r} o h w = along (λ (y : Interval). Runs l (emitIntervals o y) r l₁) (tree-of h) w
 
-pub image-runs : {l l₁ x y : List ℕ} {r : Ran} {n : ℕ} (o : Op) → Is Intervals (dim n) x → Is Intervals (itransform o (treeOf Intervals x)) y → Runs l (emitBoundary (treeOf Intervals y)) r l₁ → Runs l (emitBoundary (dimTo o n)) r l₁
+pub image-runs : {l l₁ : Book} {x y : List ℕ} {r : Ran} {n : ℕ} (o : Op) → Is Intervals (dim n) x → Is Intervals (itransform o (treeOf Intervals x)) y → Runs l (emitBoundary (treeOf Intervals y)) r l₁ → Runs l (emitBoundary (dimTo o n)) r l₁
 unfolding itransform
 image-runs {l} {l₁} {r = r} {n} o h i w =
     let e : treeOf Intervals _ ≡ itransform o (dim n) = tree-of i ∙ ap (itransform o) (tree-of h) in
@@ -219,11 +219,11 @@ unfolding itransform ftransform
 subst-literal k n t lo = fsubst-at lo
 subst-literal k n t hi = fsubst-at hi
 
-pub face-stop : {l l₁ f : List ℕ} {r : Ran} {n : ℕ} (o : Op) (u : Face) → AtEnd f n u → Runs l (emitIntervals o (dim n)) r l₁ → doneBy r ≡ false → Runs l (emitFaces o u) r l₁
+pub face-stop : {l l₁ : Book} {f : List ℕ} {r : Ran} {n : ℕ} (o : Op) (u : Face) → AtEnd f n u → Runs l (emitIntervals o (dim n)) r l₁ → doneBy r ≡ false → Runs l (emitFaces o u) r l₁
 unfolding emitFaces
 face-stop {n = n} o u (at-end e g) h d = runs-stop (emitLiteral o e n) h d
 
-pub face-shift : {l l₁ l₂ f x : List ℕ} {r s : Ran} {n i j z : ℕ} (t : List ℕ) (a : Asked) (k : ℕ) → a ≡ DShift k → (u : Face) → AtEnd f n u → Limited (transforms Faces (opOf a t) u) → operandBytes (transforms Faces (opOf a t) u) ≡ x
+pub face-shift : {l l₁ l₂ : Book} {f x : List ℕ} {r s : Ran} {n i j z : ℕ} (t : List ℕ) (a : Asked) (k : ℕ) → a ≡ DShift k → (u : Face) → AtEnd f n u → Limited (transforms Faces (opOf a t) u) → operandBytes (transforms Faces (opOf a t) u) ≡ x
     → Runs l (emitIntervals (opOf a t) (dim n)) r l₁ → doneBy r ≡ true → i ≡ stepBy r → Emits l₁ (transformKind Faces a (getD f 0 0) + 0) (i ∷ j ∷ z ∷ []) x s l₂ → Runs l (emitFaces (opOf a t) u) s l₂
 unfolding emitFaces
 face-shift {f = f} {n = n} t (DShift k) m q u (at-end e g) lim ops h d y w =
@@ -231,7 +231,7 @@ face-shift {f = f} {n = n} t (DShift k) m q u (at-end e g) lim ops h d y w =
 face-shift t (DSubst k) m q u v lim ops h d y w = absurd (let z : _≡_ {A = ℕ} 0 1 = cc in omega arith)
 
 -- A substitution: the boundary of what the dimension becomes, then the literal's own step.
-pub face-subst-stop : {l l₁ l₂ f : List ℕ} {r s : Ran} {n : ℕ} (t : List ℕ) (a : Asked) (k : ℕ) → a ≡ DSubst k → (u : Face) → AtEnd f n u
+pub face-subst-stop : {l l₁ l₂ : Book} {f : List ℕ} {r s : Ran} {n : ℕ} (t : List ℕ) (a : Asked) (k : ℕ) → a ≡ DSubst k → (u : Face) → AtEnd f n u
     → Runs l (emitIntervals (opOf a t) (dim n)) r l₁ → doneBy r ≡ true → Runs l₁ (emitBoundary (dimTo (opOf a t) n)) s l₂ → doneBy s ≡ false → Runs l (emitFaces (opOf a t) u) s l₂
 unfolding emitFaces
 face-subst-stop t (DShift k) m q u v h d b p = absurd (let z : _≡_ {A = ℕ} 0 1 = cc in omega arith)
@@ -239,7 +239,7 @@ face-subst-stop {r = r} {n = n} t (DSubst k) m q u (at-end e g) h d b p =
     let o = subst k (treeOf Intervals t) in
     runs-next (emitLiteral o e n) h d (runs-stop (λ j. emit (side e 72 73) (stepBy r ∷ j ∷ []) (transforms Faces o (at e n))) b p)
 
-pub face-subst : {l l₁ l₂ l₃ f x : List ℕ} {r c s : Ran} {n i j z : ℕ} (t : List ℕ) (a : Asked) (k : ℕ) → a ≡ DSubst k → (u : Face) → AtEnd f n u → Limited (transforms Faces (opOf a t) u) → operandBytes (transforms Faces (opOf a t) u) ≡ x
+pub face-subst : {l l₁ l₂ l₃ : Book} {f x : List ℕ} {r c s : Ran} {n i j z : ℕ} (t : List ℕ) (a : Asked) (k : ℕ) → a ≡ DSubst k → (u : Face) → AtEnd f n u → Limited (transforms Faces (opOf a t) u) → operandBytes (transforms Faces (opOf a t) u) ≡ x
     → Runs l (emitIntervals (opOf a t) (dim n)) r l₁ → doneBy r ≡ true → Runs l₁ (emitBoundary (dimTo (opOf a t) n)) c l₂ → doneBy c ≡ true → i ≡ stepBy r → j ≡ stepBy c
     → Emits l₂ (transformKind Faces a (getD f 0 0) + 0) (i ∷ j ∷ z ∷ []) x s l₃ → Runs l (emitFaces (opOf a t) u) s l₃
 unfolding emitFaces
@@ -248,7 +248,7 @@ face-subst {l₂ = l₂} {l₃} {f} {x} {r} {c} {s} {n} {z = z} t (DSubst k) m q
     let o = subst k (treeOf Intervals t) in
     let w₁ : Emits l₂ (side e 72 73) (_ ∷ _ ∷ z ∷ []) x s l₃ = emits-kind (end-kind (λ (b : ℕ). transformKind Faces (DSubst k) b + 0) e (getD f 0 0) 72 73 g refl refl) w in
     let w₂ : Emits l₂ (side e 72 73) (stepBy r ∷ stepBy c ∷ z ∷ []) x s l₃ = along₂ (λ (v v′ : ℕ). Emits l₂ (side e 72 73) (v ∷ v′ ∷ z ∷ []) x s l₃) y y′ w₁ in
-    let below : stepBy r < length (stepsOf l₂) = omega (arith, runs-below h d, runs-more b) in
+    let below : stepBy r < length (stepsOf (l₂ .bytes)) = omega (arith, runs-below h d, runs-more b) in
     runs-next (emitLiteral o e n) h d
     (runs-next (λ j. emit (side e 72 73) (stepBy r ∷ j ∷ []) (transforms Faces o (at e n))) b p
     (emits-by w₂ (subst-literal k n (treeOf Intervals t) e) (stepBy r ∷ stepBy c ∷ []) refl (below, (runs-below b p, tt)) lim refl ops))
@@ -257,7 +257,7 @@ face-subst {l₂ = l₂} {l₃} {f} {x} {r} {c} {s} {n} {z = z} t (DSubst k) m q
 pub told-is : {out : List ℕ} (f t : List ℕ) (s : Sort) (a b : Asked) → a ≡ b → Is s (transform s (opOf a t) (treeOf s f)) out → Is s (transform s (opOf b t) (treeOf s f)) out
 told-is {out} f t s a b e i = along (λ (y : Asked). Is s (transform s (opOf y t) (treeOf s f)) out) e i
 
-pub told-runs : {l l₁ : List ℕ} {r : Ran} (f t : List ℕ) (s : Sort) (a b : Asked) → a ≡ b → Runs l (emitTransform s (opOf b t) (treeOf s f)) r l₁ → Runs l (emitTransform s (opOf a t) (treeOf s f)) r l₁
+pub told-runs : {l l₁ : Book} {r : Ran} (f t : List ℕ) (s : Sort) (a b : Asked) → a ≡ b → Runs l (emitTransform s (opOf b t) (treeOf s f)) r l₁ → Runs l (emitTransform s (opOf a t) (treeOf s f)) r l₁
 told-runs {l} {l₁} {r} f t s a b e h = along (λ (y : Asked). Runs l (emitTransform s (opOf y t) (treeOf s f)) r l₁) (sym e) h
 
 pub record LiteralOf (s : Sort) (o : Op) (n : ℕ) (f out : List ℕ) : Type 0 where
@@ -268,7 +268,7 @@ pub record LiteralOf (s : Sort) (o : Op) (n : ℕ) (f out : List ℕ) : Type 0 w
 pub sort-told : {f out : List ℕ} {n : ℕ} (s z : Sort) (o : Op) → s ≡ z → Known s f → Literal s n f → Is s (transform s o (treeOf s f)) out → LiteralOf z o n f out
 sort-told {f} {out} {n} s z o e h k i = along (λ (y : Sort). LiteralOf y o n f out) e (record { known = h; literal = k; result = i })
 
-pub sort-runs : {l l₁ : List ℕ} {r : Ran} (f : List ℕ) (s z : Sort) (o : Op) → s ≡ z → Runs l (emitTransform z o (treeOf z f)) r l₁ → Runs l (emitTransform s o (treeOf s f)) r l₁
+pub sort-runs : {l l₁ : Book} {r : Ran} (f : List ℕ) (s z : Sort) (o : Op) → s ≡ z → Runs l (emitTransform z o (treeOf z f)) r l₁ → Runs l (emitTransform s o (treeOf s f)) r l₁
 sort-runs {l} {l₁} {r} f s z o e h = along (λ (y : Sort). Runs l (emitTransform y o (treeOf y f)) r l₁) (sym e) h
 
 -- The parts of the result belong to the parts of the formula.

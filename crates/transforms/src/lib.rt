@@ -12,8 +12,8 @@ ghost use lib.ListN.{length, getD, take};
 ghost use Rattle.formula.specs.Operations.{shift, subst};
 ghost use Rattle.formula.specs.Bytes.{encode};
 ghost use Rattle.calculus.specs.Calls.{transform as transformOf, emitBoundary, emitIntervals, emitFaces, emitTransform};
-ghost use Rattle.ledger.specs.Ledger.{Led};
-ghost use Rattle.steps.specs.Running.{Runs, Emits};
+ghost use Rattle.index.specs.Index.{Indexed};
+ghost use Rattle.steps.specs.Running.{book, Runs, Emits};
 ghost use Rattle.steps.specs.Trees.{Is, Known, Literal};
 ghost use Rattle.formula.specs.Answers.{treeOf};
 ghost use Rattle.transforms.specs.Transforms.{opOf, KnownOp, transformBytes, firstKind, kindGap, transformKind};
@@ -60,6 +60,7 @@ fn transform_kind(sort: Sort, op: Op, b: u8, more: usize) -> usize
 // The step of the whole formula by the rule `more` after the first, from those of its parts.
 fn transform_whole(
     l: &mut [u8],
+    ix: &mut [u32],
     sort: Sort,
     op: Op,
     f: &[u8],
@@ -69,28 +70,39 @@ fn transform_whole(
     i: usize,
     j: usize,
 ) -> Ran
-    requires { ⌜ Led (now l) × (0 < length (now f)) × (length (now f) ≤ 1022) × (length (now out) ≤ 1022) × KnownOp op (now t) × (more ≤ 2) ⌝ }
-    ensures { λ r. ⌜ Emits (now (l .entry)) (transformKind sort op (getD (now (f .entry)) 0 0) + more) (i ∷ j ∷ 0 ∷ []) (transformBytes op (now (f .entry)) (now (t .entry)) (now (out .entry))) r (now (l .exit)) ⌝ }
+    requires { ⌜ Indexed (now l) (now ix) × (0 < length (now f)) × (length (now f) ≤ 1022) × (length (now out) ≤ 1022) × KnownOp op (now t) × (more ≤ 2) ⌝ }
+    ensures { λ r. ⌜ Emits (book (now (l .entry)) (now (ix .entry))) (transformKind sort op (getD (now (f .entry)) 0 0) + more) (i ∷ j ∷ 0 ∷ []) (transformBytes op (now (f .entry)) (now (t .entry)) (now (out .entry))) r (book (now (l .exit)) (now (ix .exit))) ⌝ }
 {
     let kind = transform_kind(sort, op, f[0], more);
     match op {
-        Op::DShift(k) => steps::emit3(l, kind, [i, j, 0], f, &steps::number(k), out),
-        Op::DSubst(k) => steps::emit(l, kind, [i, j, 0], f, &steps::number(k), t, out, &out[..0]),
+        Op::DShift(k) => steps::emit3(l, ix, kind, [i, j, 0], f, &steps::number(k), out),
+        Op::DSubst(k) => steps::emit(
+            l,
+            ix,
+            kind,
+            [i, j, 0],
+            f,
+            &steps::number(k),
+            t,
+            out,
+            &out[..0],
+        ),
     }
 }
 
 // The steps of a shifted dimension n: its comparison with k, and its own.
-fn shift_dimension(l: &mut [u8], k: usize, n: usize, f: &[u8], out: &[u8]) -> Ran
-    requires { ⌜ Led (now l) × Known Sort.Intervals (now f) × (k < 255) × Literal Sort.Intervals n (now f) × Is Sort.Intervals (transformOf Sort.Intervals (shift k) (treeOf Sort.Intervals (now f))) (now out) ⌝ }
-    ensures { λ r. ⌜ Runs (now (l .entry)) (emitIntervals (shift k) (treeOf Sort.Intervals (now (f .entry)))) r (now (l .exit)) ⌝ }
+fn shift_dimension(l: &mut [u8], ix: &mut [u32], k: usize, n: usize, f: &[u8], out: &[u8]) -> Ran
+    requires { ⌜ Indexed (now l) (now ix) × Known Sort.Intervals (now f) × (k < 255) × Literal Sort.Intervals n (now f) × Is Sort.Intervals (transformOf Sort.Intervals (shift k) (treeOf Sort.Intervals (now f))) (now out) ⌝ }
+    ensures { λ r. ⌜ Runs (book (now (l .entry)) (now (ix .entry))) (emitIntervals (shift k) (treeOf Sort.Intervals (now (f .entry)))) r (book (now (l .exit)) (now (ix .exit))) ⌝ }
 {
     if n < k {
-        let r = steps::comparison(l, true, n, k);
+        let r = steps::comparison(l, ix, true, n, k);
         if !steps::is_done(r) {
             return r;
         }
         return transform_whole(
             l,
+            ix,
             Sort::Intervals,
             Op::DShift(k),
             f,
@@ -101,12 +113,13 @@ fn shift_dimension(l: &mut [u8], k: usize, n: usize, f: &[u8], out: &[u8]) -> Ra
             0,
         );
     }
-    let r = steps::comparison(l, false, k, n);
+    let r = steps::comparison(l, ix, false, k, n);
     if !steps::is_done(r) {
         return r;
     }
     transform_whole(
         l,
+        ix,
         Sort::Intervals,
         Op::DShift(k),
         f,
@@ -119,20 +132,29 @@ fn shift_dimension(l: &mut [u8], k: usize, n: usize, f: &[u8], out: &[u8]) -> Ra
 }
 
 // The steps of a dimension n where t is substituted at k: a comparison where they differ, and its own.
-fn subst_dimension(l: &mut [u8], k: usize, n: usize, f: &[u8], t: &[u8], out: &[u8]) -> Ran
-    requires { ⌜ Led (now l) × Known Sort.Intervals (now f) × ((k < 255) × Known Sort.Intervals (now t)) × Literal Sort.Intervals n (now f) × Is Sort.Intervals (transformOf Sort.Intervals (subst k (treeOf Sort.Intervals (now t))) (treeOf Sort.Intervals (now f))) (now out) ⌝ }
-    ensures { λ r. ⌜ Runs (now (l .entry)) (emitIntervals (subst k (treeOf Sort.Intervals (now (t .entry)))) (treeOf Sort.Intervals (now (f .entry)))) r (now (l .exit)) ⌝ }
+fn subst_dimension(
+    l: &mut [u8],
+    ix: &mut [u32],
+    k: usize,
+    n: usize,
+    f: &[u8],
+    t: &[u8],
+    out: &[u8],
+) -> Ran
+    requires { ⌜ Indexed (now l) (now ix) × Known Sort.Intervals (now f) × ((k < 255) × Known Sort.Intervals (now t)) × Literal Sort.Intervals n (now f) × Is Sort.Intervals (transformOf Sort.Intervals (subst k (treeOf Sort.Intervals (now t))) (treeOf Sort.Intervals (now f))) (now out) ⌝ }
+    ensures { λ r. ⌜ Runs (book (now (l .entry)) (now (ix .entry))) (emitIntervals (subst k (treeOf Sort.Intervals (now (t .entry)))) (treeOf Sort.Intervals (now (f .entry)))) r (book (now (l .exit)) (now (ix .exit))) ⌝ }
 {
     if n == k {
-        return transform_whole(l, Sort::Intervals, Op::DSubst(k), f, t, out, 1, 0, 0);
+        return transform_whole(l, ix, Sort::Intervals, Op::DSubst(k), f, t, out, 1, 0, 0);
     }
     if n < k {
-        let r = steps::comparison(l, true, n, k);
+        let r = steps::comparison(l, ix, true, n, k);
         if !steps::is_done(r) {
             return r;
         }
         return transform_whole(
             l,
+            ix,
             Sort::Intervals,
             Op::DSubst(k),
             f,
@@ -143,12 +165,13 @@ fn subst_dimension(l: &mut [u8], k: usize, n: usize, f: &[u8], t: &[u8], out: &[
             0,
         );
     }
-    let r = steps::comparison(l, true, k, n);
+    let r = steps::comparison(l, ix, true, k, n);
     if !steps::is_done(r) {
         return r;
     }
     transform_whole(
         l,
+        ix,
         Sort::Intervals,
         Op::DSubst(k),
         f,
@@ -161,13 +184,21 @@ fn subst_dimension(l: &mut [u8], k: usize, n: usize, f: &[u8], t: &[u8], out: &[
 }
 
 // The steps of a dimension n, by the operation.
-fn transform_dimension(l: &mut [u8], op: Op, n: usize, f: &[u8], t: &[u8], out: &[u8]) -> Ran
-    requires { ⌜ Led (now l) × Known Sort.Intervals (now f) × KnownOp op (now t) × Literal Sort.Intervals n (now f) × Is Sort.Intervals (transformOf Sort.Intervals (opOf op (now t)) (treeOf Sort.Intervals (now f))) (now out) ⌝ }
-    ensures { λ r. ⌜ Runs (now (l .entry)) (emitIntervals (opOf op (now (t .entry))) (treeOf Sort.Intervals (now (f .entry)))) r (now (l .exit)) ⌝ }
+fn transform_dimension(
+    l: &mut [u8],
+    ix: &mut [u32],
+    op: Op,
+    n: usize,
+    f: &[u8],
+    t: &[u8],
+    out: &[u8],
+) -> Ran
+    requires { ⌜ Indexed (now l) (now ix) × Known Sort.Intervals (now f) × KnownOp op (now t) × Literal Sort.Intervals n (now f) × Is Sort.Intervals (transformOf Sort.Intervals (opOf op (now t)) (treeOf Sort.Intervals (now f))) (now out) ⌝ }
+    ensures { λ r. ⌜ Runs (book (now (l .entry)) (now (ix .entry))) (emitIntervals (opOf op (now (t .entry))) (treeOf Sort.Intervals (now (f .entry)))) r (book (now (l .exit)) (now (ix .exit))) ⌝ }
 {
     match op {
-        Op::DShift(k) => shift_dimension(l, k, n, f, out),
-        Op::DSubst(k) => subst_dimension(l, k, n, f, t, out),
+        Op::DShift(k) => shift_dimension(l, ix, k, n, f, out),
+        Op::DSubst(k) => subst_dimension(l, ix, k, n, f, t, out),
     }
 }
 
@@ -185,9 +216,9 @@ fn image(op: Op, r: &[u8], t: &[u8], out: &mut [u8]) -> usize
 }
 
 // The steps of an interval's boundary, whose two faces are made here. They keep the limits, so there is always a result.
-fn boundary_steps(l: &mut [u8], r: &[u8]) -> Ran
-    requires { ⌜ Led (now l) × Known Sort.Intervals (now r) ⌝ }
-    ensures { λ x. ⌜ Runs (now (l .entry)) (emitBoundary (treeOf Sort.Intervals (now (r .entry)))) x (now (l .exit)) ⌝ }
+fn boundary_steps(l: &mut [u8], ix: &mut [u32], r: &[u8]) -> Ran
+    requires { ⌜ Indexed (now l) (now ix) × Known Sort.Intervals (now r) ⌝ }
+    ensures { λ x. ⌜ Runs (book (now (l .entry)) (now (ix .entry))) (emitBoundary (treeOf Sort.Intervals (now (r .entry)))) x (book (now (l .exit)) (now (ix .exit))) ⌝ }
 {
     let mut zero = [0u8; 1024];
     let mut one = [0u8; 1024];
@@ -196,7 +227,7 @@ fn boundary_steps(l: &mut [u8], r: &[u8]) -> Ran
             let m = z.len;
             let a = &zero[..m];
             let b = &one[..m];
-            boundary_steps::boundary(l, r, a, b)
+            boundary_steps::boundary(l, ix, r, a, b)
         }
         Outcome::Short(_) => Ran::Full,
         Outcome::Over => Ran::Full,
@@ -205,27 +236,35 @@ fn boundary_steps(l: &mut [u8], r: &[u8]) -> Ran
 }
 
 // The steps of a face literal on n: of its dimension, in a substitution of the boundary of what that becomes, and its own.
-fn face_literal(l: &mut [u8], op: Op, n: usize, f: &[u8], t: &[u8], out: &[u8]) -> Ran
-    requires { ⌜ Led (now l) × Known Sort.Faces (now f) × KnownOp op (now t) × Literal Sort.Faces n (now f) × Is Sort.Faces (transformOf Sort.Faces (opOf op (now t)) (treeOf Sort.Faces (now f))) (now out) ⌝ }
-    ensures { λ r. ⌜ Runs (now (l .entry)) (emitFaces (opOf op (now (t .entry))) (treeOf Sort.Faces (now (f .entry)))) r (now (l .exit)) ⌝ }
+fn face_literal(
+    l: &mut [u8],
+    ix: &mut [u32],
+    op: Op,
+    n: usize,
+    f: &[u8],
+    t: &[u8],
+    out: &[u8],
+) -> Ran
+    requires { ⌜ Indexed (now l) (now ix) × Known Sort.Faces (now f) × KnownOp op (now t) × Literal Sort.Faces n (now f) × Is Sort.Faces (transformOf Sort.Faces (opOf op (now t)) (treeOf Sort.Faces (now f))) (now out) ⌝ }
+    ensures { λ r. ⌜ Runs (book (now (l .entry)) (now (ix .entry))) (emitFaces (opOf op (now (t .entry))) (treeOf Sort.Faces (now (f .entry)))) r (book (now (l .exit)) (now (ix .exit))) ⌝ }
 {
     let node = steps::literal(18, n);
     let mut became = [0u8; 1024];
     let m = image(op, &node, t, &mut became);
-    let a = transform_dimension(l, op, n, &node, t, &became[..m]);
+    let a = transform_dimension(l, ix, op, n, &node, t, &became[..m]);
     if !steps::is_done(a) {
         return a;
     }
     let i = steps::step_of(a);
     match op {
-        Op::DShift(_) => transform_whole(l, Sort::Faces, op, f, t, out, 0, i, 0),
+        Op::DShift(_) => transform_whole(l, ix, Sort::Faces, op, f, t, out, 0, i, 0),
         Op::DSubst(_) => {
-            let b = boundary_steps(l, &became[..m]);
+            let b = boundary_steps(l, ix, &became[..m]);
             if !steps::is_done(b) {
                 return b;
             }
             let j = steps::step_of(b);
-            transform_whole(l, Sort::Faces, op, f, t, out, 0, i, j)
+            transform_whole(l, ix, Sort::Faces, op, f, t, out, 0, i, j)
         }
     }
 }
@@ -233,6 +272,7 @@ fn face_literal(l: &mut [u8], op: Op, n: usize, f: &[u8], t: &[u8], out: &[u8]) 
 // The steps of a literal on n, by the sort. Apart from the recursion, whose frames then hold no buffers.
 fn transform_literal(
     l: &mut [u8],
+    ix: &mut [u32],
     sort: Sort,
     op: Op,
     n: usize,
@@ -240,46 +280,54 @@ fn transform_literal(
     t: &[u8],
     out: &[u8],
 ) -> Ran
-    requires { ⌜ Led (now l) × Known sort (now f) × KnownOp op (now t) × Literal sort n (now f) × Is sort (transformOf sort (opOf op (now t)) (treeOf sort (now f))) (now out) ⌝ }
-    ensures { λ r. ⌜ Runs (now (l .entry)) (emitTransform sort (opOf op (now (t .entry))) (treeOf sort (now (f .entry)))) r (now (l .exit)) ⌝ }
+    requires { ⌜ Indexed (now l) (now ix) × Known sort (now f) × KnownOp op (now t) × Literal sort n (now f) × Is sort (transformOf sort (opOf op (now t)) (treeOf sort (now f))) (now out) ⌝ }
+    ensures { λ r. ⌜ Runs (book (now (l .entry)) (now (ix .entry))) (emitTransform sort (opOf op (now (t .entry))) (treeOf sort (now (f .entry)))) r (book (now (l .exit)) (now (ix .exit))) ⌝ }
 {
     match sort {
-        Sort::Faces => face_literal(l, op, n, f, t, out),
-        Sort::Intervals => transform_dimension(l, op, n, f, t, out),
+        Sort::Faces => face_literal(l, ix, op, n, f, t, out),
+        Sort::Intervals => transform_dimension(l, ix, op, n, f, t, out),
     }
 }
 
 // The steps of a formula and its parts.
-pub fn transform(l: &mut [u8], sort: Sort, op: Op, f: &[u8], t: &[u8], out: &[u8]) -> Ran
-    requires { ⌜ Led (now l) × Known sort (now f) × KnownOp op (now t) × Is sort (transformOf sort (opOf op (now t)) (treeOf sort (now f))) (now out) ⌝ }
-    ensures { λ r. ⌜ Runs (now (l .entry)) (emitTransform sort (opOf op (now (t .entry))) (treeOf sort (now (f .entry)))) r (now (l .exit)) ⌝ }
+pub fn transform(
+    l: &mut [u8],
+    ix: &mut [u32],
+    sort: Sort,
+    op: Op,
+    f: &[u8],
+    t: &[u8],
+    out: &[u8],
+) -> Ran
+    requires { ⌜ Indexed (now l) (now ix) × Known sort (now f) × KnownOp op (now t) × Is sort (transformOf sort (opOf op (now t)) (treeOf sort (now f))) (now out) ⌝ }
+    ensures { λ r. ⌜ Runs (book (now (l .entry)) (now (ix .entry))) (emitTransform sort (opOf op (now (t .entry))) (treeOf sort (now (f .entry)))) r (book (now (l .exit)) (now (ix .exit))) ⌝ }
 {
     let first = Place { at: 0, pending: 1 };
     match first.step(sort, f) {
-        Step::Leaf(_) => transform_whole(l, sort, op, f, t, out, 0, 0, 0),
-        Step::Lit(_, n) => transform_literal(l, sort, op, n, f, t, out),
+        Step::Leaf(_) => transform_whole(l, ix, sort, op, f, t, out, 0, 0, 0),
+        Step::Lit(_, n) => transform_literal(l, ix, sort, op, n, f, t, out),
         Step::One(_) => {
-            let a = transform(l, sort, op, &f[1..], t, &out[1..]);
+            let a = transform(l, ix, sort, op, &f[1..], t, &out[1..]);
             if !steps::is_done(a) {
                 return a;
             }
-            transform_whole(l, sort, op, f, t, out, 0, steps::step_of(a), 0)
+            transform_whole(l, ix, sort, op, f, t, out, 0, steps::step_of(a), 0)
         }
         Step::Two(_) => {
             let x = formula::formula_at(sort, f, 1);
             let y = formula::formula_at(sort, out, 1);
-            let a = transform(l, sort, op, x, t, y);
+            let a = transform(l, ix, sort, op, x, t, y);
             if !steps::is_done(a) {
                 return a;
             }
             let z = steps::behind(f, x.len());
             let w = steps::behind(out, y.len());
-            let b = transform(l, sort, op, z, t, w);
+            let b = transform(l, ix, sort, op, z, t, w);
             if !steps::is_done(b) {
                 return b;
             }
             let i = steps::step_of(a);
-            transform_whole(l, sort, op, f, t, out, 0, i, steps::step_of(b))
+            transform_whole(l, ix, sort, op, f, t, out, 0, i, steps::step_of(b))
         }
         Step::Stuck => Ran::Full,
     }

@@ -15,8 +15,11 @@ emit3-requires c κs = search needs
 same-length : tie.Need-same-length
 same-length c = search needs
 
+same-length-2 : tie.Need-same-length-2
+same-length-2 c = search needs
+
 returns : tie.Need-returns
-returns c = emits-kind (c .before .before .before .before .boundary-kind .ensures) (c .before .before .emit3 .ensures)
+returns c = emits-kind (c .before .before .before .before .before .before .before .boundary-kind .ensures) (c .before .before .before .before .emit3 .ensures)
 
 pub boundary-whole-spec : {M : Type 1} → statement M
 boundary-whole-spec =
@@ -26,4 +29,5 @@ boundary-whole-spec =
     boundary-kind-requires
     emit3-requires
     same-length
+    same-length-2
     returns)

@@ -24,8 +24,11 @@ emit2-requires c κs = search needs
 same-length : tie.Need-same-length
 same-length c = search needs
 
+same-length-2 : tie.Need-same-length-2
+same-length-2 c = search needs
+
 returns : tie.Need-returns
-returns c = let a = c .before .before .before .before .before .before .before .before .before .before .args in emits-kind (c .before .before .before .before .before .before .bounded-kind .ensures) (emits-same (ap (λ (x : List ℕ). x ++ a .f .now) (c .before .before .before .before .number .ensures)) (c .before .before .emit2 .ensures))
+returns c = let a = c .before .before .before .before .before .before .before .before .before .before .before .before .before .before .args in emits-kind (c .before .before .before .before .before .before .before .before .before .bounded-kind .ensures) (emits-same (ap (λ (x : List ℕ). x ++ a .f .now) (c .before .before .before .before .before .before .number .ensures)) (c .before .before .before .before .emit2 .ensures))
 
 pub bounded-whole-spec : {M : Type 1} → statement M
 bounded-whole-spec =
@@ -37,4 +40,5 @@ bounded-whole-spec =
     slice-aggregate-emit2
     emit2-requires
     same-length
+    same-length-2
     returns)

@@ -24,8 +24,11 @@ emit3-requires c κs = search needs
 same-length : tie.Need-same-length
 same-length c = search needs
 
+same-length-2 : tie.Need-same-length-2
+same-length-2 c = search needs
+
 returns : tie.Need-returns
-returns c = let a = c .before .before .before .before .before .before .before .before .before .before .before .args in emits-kind (c .before .before .before .before .before .before .forall-kind .ensures) (emits-same (ap (λ (x : List ℕ). a .f .now ++ (x ++ a .out .now)) (c .before .before .before .before .number .ensures)) (c .before .before .emit3 .ensures))
+returns c = let a = c .before .before .before .before .before .before .before .before .before .before .before .before .before .before .before .args in emits-kind (c .before .before .before .before .before .before .before .before .before .forall-kind .ensures) (emits-same (ap (λ (x : List ℕ). a .f .now ++ (x ++ a .out .now)) (c .before .before .before .before .before .before .number .ensures)) (c .before .before .before .before .emit3 .ensures))
 
 pub forall-whole-spec : {M : Type 1} → statement M
 forall-whole-spec =
@@ -37,4 +40,5 @@ forall-whole-spec =
     slice-aggregate-emit3
     emit3-requires
     same-length
+    same-length-2
     returns)

@@ -29,8 +29,11 @@ emit-requires c κs = search needs
 same-length : tie.Need-same-length
 same-length c = search needs
 
+same-length-2 : tie.Need-same-length-2
+same-length-2 c = search needs
+
 returns : tie.Need-returns
-returns c = let a = c .before .before .before .before .before .before .before .before .before .before .before .before .before .args in emits-kind (c .before .before .before .before .before .before .before .before .before .end-kind .ensures) (emits-same (local-operands (endOf (a .hi)) (a .phi .now) (a .r .now) (c .before .before .before .before .before .before .number .ensures) (c .before .before .before .before .before .before .before .before .end-bytes .ensures)) (c .before .before .emit .ensures))
+returns c = let a = c .before .before .before .before .before .before .before .before .before .before .before .before .before .before .before .before .before .args in emits-kind (c .before .before .before .before .before .before .before .before .before .before .before .before .end-kind .ensures) (emits-same (local-operands (endOf (a .hi)) (a .phi .now) (a .r .now) (c .before .before .before .before .before .before .before .before .number .ensures) (c .before .before .before .before .before .before .before .before .before .before .before .end-bytes .ensures)) (c .before .before .before .before .emit .ensures))
 
 pub local-spec : {M : Type 1} → statement M
 local-spec =
@@ -44,4 +47,5 @@ local-spec =
     slice-aggregate-emit-3
     emit-requires
     same-length
+    same-length-2
     returns)

@@ -18,19 +18,19 @@ enum-known-z : tie.Need-enum-known-z
 enum-known-z c = search needs
 
 array-share-prefix-zero : tie.Need-array-share-prefix-zero
-array-share-prefix-zero c = zero-front (c .before .before .before .before .before .before .before .before .before .before .pre .1) room room (c .before .before .before .before .before .boundary .ensures) _ (c .before .z .given .1) .inside
+array-share-prefix-zero c = zero-front (c .before .before .before .before .before .before .before .before .before .before .before .pre .1) room room (c .before .before .before .before .before .boundary .ensures) _ (c .before .z .given .1) .inside
 
 slice-aggregate-a : tie.Need-slice-aggregate-a
-slice-aggregate-a c = sym (length-take-le _ _ (zero-front (c .before .before .before .before .before .before .before .before .before .before .before .pre .1) room room (c .before .before .before .before .before .before .boundary .ensures) _ (c .before .before .z .given .1) .inside))
+slice-aggregate-a c = sym (length-take-le _ _ (zero-front (c .before .before .before .before .before .before .before .before .before .before .before .before .pre .1) room room (c .before .before .before .before .before .before .boundary .ensures) _ (c .before .before .z .given .1) .inside))
 
 array-share-prefix-one : tie.Need-array-share-prefix-one
-array-share-prefix-one c = one-front (c .before .before .before .before .before .before .before .before .before .before .before .pre .1) room room (c .before .before .before .before .before .before .boundary .ensures) _ (c .before .before .z .given .1) .inside
+array-share-prefix-one c = one-front (c .before .before .before .before .before .before .before .before .before .before .before .before .pre .1) room room (c .before .before .before .before .before .before .boundary .ensures) _ (c .before .before .z .given .1) .inside
 
 slice-aggregate-b : tie.Need-slice-aggregate-b
-slice-aggregate-b c = sym (length-take-le _ _ (one-front (c .before .before .before .before .before .before .before .before .before .before .before .before .pre .1) room room (c .before .before .before .before .before .before .before .boundary .ensures) _ (c .before .before .before .z .given .1) .inside))
+slice-aggregate-b c = sym (length-take-le _ _ (one-front (c .before .before .before .before .before .before .before .before .before .before .before .before .before .pre .1) room room (c .before .before .before .before .before .before .before .boundary .ensures) _ (c .before .before .before .z .given .1) .inside))
 
 boundary-requires-2 : tie.Need-boundary-requires-2
-boundary-requires-2 c κs = (c .before .before .before .before .before .before .before .before .before .before .before .before .before .pre .0, c .before .before .before .before .before .before .before .before .before .before .before .before .before .pre .1, sides-front (c .before .before .before .before .before .before .before .before .before .before .before .before .before .pre .1) room room (c .before .before .before .before .before .before .before .before .boundary .ensures) _ (c .before .before .before .before .z .given .1))
+boundary-requires-2 c κs = (c .before .before .before .before .before .before .before .before .before .before .before .before .before .before .before .pre .0, c .before .before .before .before .before .before .before .before .before .before .before .before .before .before .before .pre .1, sides-front (c .before .before .before .before .before .before .before .before .before .before .before .before .before .before .before .pre .1) room room (c .before .before .before .before .before .before .before .before .before .boundary .ensures) _ (c .before .before .before .before .before .z .given .1))
 
 enum-told : tie.Need-enum-told
 enum-told c = search needs
@@ -44,17 +44,20 @@ enum-told-3 c = search needs
 same-length : tie.Need-same-length
 same-length c = search needs
 
+same-length-2 : tie.Need-same-length-2
+same-length-2 c = search needs
+
 returns : tie.Need-returns
 returns c = search needs
 
 returns-2 : tie.Need-returns-2
-returns-2 c = sides-made (c .before .before .before .before .before .before .before .before .before .pre .1) room room (c .before .before .before .before .boundary .ensures) (ap resulted (c .enum-told .given .1))
+returns-2 c = sides-made (c .before .before .before .before .before .before .before .before .before .before .pre .1) room room (c .before .before .before .before .boundary .ensures) (ap resulted (c .enum-told .given .1))
 
 returns-3 : tie.Need-returns-3
-returns-3 c = sides-made (c .before .before .before .before .before .before .before .before .before .pre .1) room room (c .before .before .before .before .boundary .ensures) (ap resulted (c .enum-told2 .given .1))
+returns-3 c = sides-made (c .before .before .before .before .before .before .before .before .before .before .pre .1) room room (c .before .before .before .before .boundary .ensures) (ap resulted (c .enum-told2 .given .1))
 
 returns-4 : tie.Need-returns-4
-returns-4 c = sides-made (c .before .before .before .before .before .before .before .before .before .pre .1) room room (c .before .before .before .before .boundary .ensures) (ap resulted (c .enum-told3 .given .1))
+returns-4 c = sides-made (c .before .before .before .before .before .before .before .before .before .before .pre .1) room room (c .before .before .before .before .boundary .ensures) (ap resulted (c .enum-told3 .given .1))
 
 pub boundary-steps-spec : {M : Type 1} → statement M
 boundary-steps-spec =
@@ -73,6 +76,7 @@ boundary-steps-spec =
     enum-told-2
     enum-told-3
     same-length
+    same-length-2
     returns
     returns-2
     returns-3

@@ -4,8 +4,8 @@ use borrow.Fn.PlainCycle.{Measures, is, falls, and}
 use Rattle.contexts.proofs.moves.clash_in.Reads as clash-in
 use Rattle.contexts.proofs.moves.clash_in.Kinds as clash-in-kinds
 use Rattle.contexts.proofs.moves.+clash_in.Lts-clash_in as clash-in-lts
-use Rattle.formula.proofs.formula_at.Reads as formula-at-reads
 use Rattle.contexts.proofs.moves.opposed.Reads as opposed-reads
+use Rattle.formula.proofs.formula_at.Reads as formula-at-reads
 use Rattle.contexts.proofs.moves.+clash_in.{statement}
 use Rattle.contexts.proofs.moves.+clash_in.Tie.{close}
 use native.Mathlib.Omega.{arith}

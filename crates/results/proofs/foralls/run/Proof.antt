@@ -8,11 +8,11 @@ use Rattle.results.proofs.IndexLaws.{forall-result}
 used-requires : tie.Need-used-requires
 used-requires c κs = search needs
 
-forall-requires : tie.Need-forall-requires
-forall-requires c κs = search needs
+run-requires : tie.Need-run-requires
+run-requires c κs = (c .before .before .before .before .before .before .before .pre .0, (c .before .before .before .before .before .before .before .pre .1, c .before .before .before .before .before .before .before .pre .2, c .before .before .before .before .before .before .before .pre .3 .is .bytes))
 
 ending-requires : tie.Need-ending-requires
-ending-requires c κs = end-inside (c .before .before .before .before .before .before .before .before .before .before .before .pre .0) (c .before .before .before .forall .ensures) (c .before .before .before .before .before .used .ensures)
+ending-requires c κs = end-inside (c .before .before .before .before .before .before .before .before .before .before .before .pre .0) (c .before .before .before .run .ensures) (c .before .before .before .before .before .used .ensures)
 
 deliver-requires : tie.Need-deliver-requires
 deliver-requires c κs = search needs
@@ -27,14 +27,14 @@ same-length-2 : tie.Need-same-length-2
 same-length-2 c = search needs
 
 returns : tie.Need-returns
-returns c = let p = c .before .before .before .before .before .before .before .before .before .before .before .before .before .before .before .before .before .before .before .args in one-made (forall-result (p .f .now) (p .k) (p .out .now) (c .before .before .before .before .before .before .before .before .before .before .before .before .before .before .before .before .before .before .before .pre .0) (c .before .before .before .before .before .before .before .before .before .before .before .before .before .before .before .before .before .before .before .pre .1) (c .before .before .before .before .before .before .before .before .before .before .before .before .before .before .before .before .before .before .before .pre .2)) (c .before .before .before .before .before .before .before .before .before .before .before .before .before .before .before .before .before .before .before .pre .3) (c .before .before .before .before .before .before .before .before .before .before .before .before .before .before .before .before .before .before .before .pre .4) (c .before .before .before .before .before .before .before .before .before .before .before .forall .ensures) (c .before .before .before .before .before .before .before .before .before .before .before .before .before .used .ensures) (c .before .before .before .before .before .before .before .ending .ensures) (c .before .before .before .deliver .ensures) (c .with-size .ensures)
+returns c = let p = c .before .before .before .before .before .before .before .before .before .before .before .before .before .before .before .before .before .before .before .args in one-made (forall-result (p .f .now) (p .k) (p .out .now) (c .before .before .before .before .before .before .before .before .before .before .before .before .before .before .before .before .before .before .before .pre .0) (c .before .before .before .before .before .before .before .before .before .before .before .before .before .before .before .before .before .before .before .pre .1) (c .before .before .before .before .before .before .before .before .before .before .before .before .before .before .before .before .before .before .before .pre .2)) (c .before .before .before .before .before .before .before .before .before .before .before .before .before .before .before .before .before .before .before .pre .3) (c .before .before .before .before .before .before .before .before .before .before .before .before .before .before .before .before .before .before .before .pre .4) (c .before .before .before .before .before .before .before .before .before .before .before .run .ensures) (c .before .before .before .before .before .before .before .before .before .before .before .before .before .used .ensures) (c .before .before .before .before .before .before .before .ending .ensures) (c .before .before .before .deliver .ensures) (c .with-size .ensures)
 
 pub run-spec : {M : Type 1} → statement M
 run-spec =
     tie.close
     (tie.spec
     used-requires
-    forall-requires
+    run-requires
     ending-requires
     deliver-requires
     with-size-requires

@@ -7,17 +7,17 @@ use Rattle.runs.proofs.BoundLaws.{bounded-replies}
 used-requires : tie.Need-used-requires
 used-requires c κs = search needs
 
-bounded-requires : tie.Need-bounded-requires
-bounded-requires c κs = search needs
+run-requires : tie.Need-run-requires
+run-requires c κs = (c .before .before .before .before .before .pre .0, (c .before .before .before .before .before .pre .1, c .before .before .before .before .before .pre .2))
 
 ending-requires : tie.Need-ending-requires
-ending-requires c κs = end-inside (c .before .before .before .before .before .before .before .before .before .pre .0) (c .before .before .before .bounded .ensures) (c .before .before .before .before .before .used .ensures)
+ending-requires c κs = end-inside (c .before .before .before .before .before .before .before .before .before .pre .0) (c .before .before .before .run .ensures) (c .before .before .before .before .before .used .ensures)
 
 same-length : tie.Need-same-length
 same-length c = search needs
 
 returns : tie.Need-returns
-returns c = let p = c .before .before .before .before .before .before .before .before .before .before .before .before .args in bounded-replies (p .sort) (p .d) (c .before .before .before .before .before .before .before .before .before .before .before .before .pre .0) (c .before .before .before .before .before .before .before .before .before .before .before .before .pre .1) (c .before .before .before .before .before .before .before .before .before .before .before .before .pre .2) (c .before .before .before .before .before .before .bounded .ensures) (c .before .before .before .before .before .before .before .before .used .ensures) (c .before .before .ending .ensures)
+returns c = let p = c .before .before .before .before .before .before .before .before .before .before .before .before .args in bounded-replies (p .sort) (p .d) (c .before .before .before .before .before .before .before .before .before .before .before .before .pre .0) (c .before .before .before .before .before .before .before .before .before .before .before .before .pre .1) (c .before .before .before .before .before .before .before .before .before .before .before .before .pre .2) (c .before .before .before .before .before .before .run .ensures) (c .before .before .before .before .before .before .before .before .used .ensures) (c .before .before .ending .ensures)
 
 pub bounded-spec : {M : Type 1} → statement M
-bounded-spec = tie.close (tie.spec used-requires bounded-requires ending-requires same-length returns)
+bounded-spec = tie.close (tie.spec used-requires run-requires ending-requires same-length returns)

@@ -7,6 +7,7 @@ use lib.ListN.{length, length-replicate, replicate}
 use mathlib.Core.List.{_++_}
 use Prim.Native.Nat.{ℕ}
 use Rattle.steps.proofs.RunLaws.{emits-number, emits-full}
+use Rattle.steps.specs.Running.{book}
 use Rattle.steps.proofs.PartLaws.{five-parts, five-length}
 
 add-j : tie.Need-add-j
@@ -55,8 +56,8 @@ array-share-prefix-operands : tie.Need-array-share-prefix-operands
 array-share-prefix-operands c = search needs
 
 slice-aggregate-emit-step : tie.Need-slice-aggregate-emit-step
-slice-aggregate-emit-step c = let a = c .before .before .before .before .before .before .before .before .before .before .before .before .before .before .before .before .before .before .before .before .before .before .before .args in
-    let h = five-parts (replicate 4096 0) (a .a .now) (a .b .now) (a .c .now) (a .d .now) (a .e .now) _ _ _ _ _ (omega (arith, c .before .before .before .before .before .before .before .before .before .before .before .before .before .before .before .before .before .before .before .before .before .before .before .pre .1, length-replicate {A = ℕ} 4096 0)) (c .before .before .before .before .before .before .before .before .before .before .before .before .before .before .before .copy .ensures) (c .before .before .before .before .before .before .before .before .before .before .before .before .copy2 .ensures) (c .before .before .before .before .before .before .before .before .before .copy3 .ensures) (c .before .before .before .before .before .before .copy4 .ensures) (c .before .before .before .copy5 .ensures) in
+slice-aggregate-emit-step c = let a = c .before .before .before .before .before .before .before .before .before .before .before .before .before .before .before .before .before .before .before .before .before .before .before .before .before .args in
+    let h = five-parts (replicate 4096 0) (a .a .now) (a .b .now) (a .c .now) (a .d .now) (a .e .now) _ _ _ _ _ (omega (arith, c .before .before .before .before .before .before .before .before .before .before .before .before .before .before .before .before .before .before .before .before .before .before .before .before .before .pre .1, length-replicate {A = ℕ} 4096 0)) (c .before .before .before .before .before .before .before .before .before .before .before .before .before .before .before .before .copy .ensures) (c .before .before .before .before .before .before .before .before .before .before .before .before .before .copy2 .ensures) (c .before .before .before .before .before .before .before .before .before .before .copy3 .ensures) (c .before .before .before .before .before .before .before .copy4 .ensures) (c .before .before .before .before .copy5 .ensures) in
     sym (ap length h ∙ five-length (a .a .now) (a .b .now) (a .c .now) (a .d .now) (a .e .now))
 
 emit-step-requires : tie.Need-emit-step-requires
@@ -71,18 +72,24 @@ enum-told c = search needs
 same-length : tie.Need-same-length
 same-length c = search needs
 
-returns : tie.Need-returns
-returns c = let a = c .before .before .before .before .before .before .before .before .before .before .before .before .before .before .before .before .before .before .before .before .before .before .before .before .before .before .before .before .before .args in
-    let h = five-parts (replicate 4096 0) (a .a .now) (a .b .now) (a .c .now) (a .d .now) (a .e .now) _ _ _ _ _ (omega (arith, c .before .before .before .before .before .before .before .before .before .before .before .before .before .before .before .before .before .before .before .before .before .before .before .before .before .before .before .before .before .pre .1, length-replicate {A = ℕ} 4096 0)) (c .before .before .before .before .before .before .before .before .before .before .before .before .before .before .before .before .before .before .before .before .before .copy .ensures) (c .before .before .before .before .before .before .before .before .before .before .before .before .before .before .before .before .before .before .copy2 .ensures) (c .before .before .before .before .before .before .before .before .before .before .before .before .before .before .before .copy3 .ensures) (c .before .before .before .before .before .before .before .before .before .before .before .before .copy4 .ensures) (c .before .before .before .before .before .before .before .before .before .copy5 .ensures) in
-    emits-number (a .l .now) (c .before .before .before .before .before .emit-step .last .0) (c .before .before .before .before .before .before .before .before .before .before .before .before .before .before .before .before .before .before .before .before .before .before .before .before .before .before .before .before .before .pre .0) (a .kind) (a .references) (a .a .now ++ (a .b .now ++ (a .c .now ++ (a .d .now ++ a .e .now)))) _ h _ _ (c .before .i .given .1) (c .before .before .before .before .before .emit-step .ensures)
-
 same-length-2 : tie.Need-same-length-2
 same-length-2 c = search needs
 
+returns : tie.Need-returns
+returns c = let a = c .before .before .before .before .before .before .before .before .before .before .before .before .before .before .before .before .before .before .before .before .before .before .before .before .before .before .before .before .before .before .before .before .before .args in
+    let h = five-parts (replicate 4096 0) (a .a .now) (a .b .now) (a .c .now) (a .d .now) (a .e .now) _ _ _ _ _ (omega (arith, c .before .before .before .before .before .before .before .before .before .before .before .before .before .before .before .before .before .before .before .before .before .before .before .before .before .before .before .before .before .before .before .before .before .pre .1, length-replicate {A = ℕ} 4096 0)) (c .before .before .before .before .before .before .before .before .before .before .before .before .before .before .before .before .before .before .before .before .before .before .before .before .copy .ensures) (c .before .before .before .before .before .before .before .before .before .before .before .before .before .before .before .before .before .before .before .before .before .copy2 .ensures) (c .before .before .before .before .before .before .before .before .before .before .before .before .before .before .before .before .before .before .copy3 .ensures) (c .before .before .before .before .before .before .before .before .before .before .before .before .before .before .before .copy4 .ensures) (c .before .before .before .before .before .before .before .before .before .before .before .before .copy5 .ensures) in
+    emits-number (book (a .l .now) (a .ix .now)) (book (c .before .before .before .before .before .before .before .emit-step .last .0) (c .before .before .before .before .before .before .before .emit-step .last .1 .0)) (c .before .before .before .before .before .before .before .before .before .before .before .before .before .before .before .before .before .before .before .before .before .before .before .before .before .before .before .before .before .before .before .before .before .pre .0) (a .kind) (a .references) (a .a .now ++ (a .b .now ++ (a .c .now ++ (a .d .now ++ a .e .now)))) _ h (c .before .before .before .before .before .before .before .emit-step .ensures .1) _ _ (c .before .i .given .1) (c .before .before .before .before .before .before .before .emit-step .ensures .0)
+
+same-length-3 : tie.Need-same-length-3
+same-length-3 c = search needs
+
+same-length-4 : tie.Need-same-length-4
+same-length-4 c = search needs
+
 returns-2 : tie.Need-returns-2
-returns-2 c = let a = c .before .before .before .before .before .before .before .before .before .before .before .before .before .before .before .before .before .before .before .before .before .before .before .before .before .before .before .before .args in
-    let h = five-parts (replicate 4096 0) (a .a .now) (a .b .now) (a .c .now) (a .d .now) (a .e .now) _ _ _ _ _ (omega (arith, c .before .before .before .before .before .before .before .before .before .before .before .before .before .before .before .before .before .before .before .before .before .before .before .before .before .before .before .before .pre .1, length-replicate {A = ℕ} 4096 0)) (c .before .before .before .before .before .before .before .before .before .before .before .before .before .before .before .before .before .before .before .before .copy .ensures) (c .before .before .before .before .before .before .before .before .before .before .before .before .before .before .before .before .before .copy2 .ensures) (c .before .before .before .before .before .before .before .before .before .before .before .before .before .before .copy3 .ensures) (c .before .before .before .before .before .before .before .before .before .before .before .copy4 .ensures) (c .before .before .before .before .before .before .before .before .copy5 .ensures) in
-    emits-full (a .l .now) (c .before .before .before .before .emit-step .last .0) (c .before .before .before .before .before .before .before .before .before .before .before .before .before .before .before .before .before .before .before .before .before .before .before .before .before .before .before .before .pre .0) (a .kind) (a .references) (a .a .now ++ (a .b .now ++ (a .c .now ++ (a .d .now ++ a .e .now)))) _ h _ (c .enum-told .given .1) (c .before .before .before .before .emit-step .ensures)
+returns-2 c = let a = c .before .before .before .before .before .before .before .before .before .before .before .before .before .before .before .before .before .before .before .before .before .before .before .before .before .before .before .before .before .before .before .before .args in
+    let h = five-parts (replicate 4096 0) (a .a .now) (a .b .now) (a .c .now) (a .d .now) (a .e .now) _ _ _ _ _ (omega (arith, c .before .before .before .before .before .before .before .before .before .before .before .before .before .before .before .before .before .before .before .before .before .before .before .before .before .before .before .before .before .before .before .before .pre .1, length-replicate {A = ℕ} 4096 0)) (c .before .before .before .before .before .before .before .before .before .before .before .before .before .before .before .before .before .before .before .before .before .before .before .copy .ensures) (c .before .before .before .before .before .before .before .before .before .before .before .before .before .before .before .before .before .before .before .before .copy2 .ensures) (c .before .before .before .before .before .before .before .before .before .before .before .before .before .before .before .before .before .copy3 .ensures) (c .before .before .before .before .before .before .before .before .before .before .before .before .before .before .copy4 .ensures) (c .before .before .before .before .before .before .before .before .before .before .before .copy5 .ensures) in
+    emits-full (book (a .l .now) (a .ix .now)) (book (c .before .before .before .before .before .before .emit-step .last .0) (c .before .before .before .before .before .before .emit-step .last .1 .0)) (c .before .before .before .before .before .before .before .before .before .before .before .before .before .before .before .before .before .before .before .before .before .before .before .before .before .before .before .before .before .before .before .before .pre .0) (a .kind) (a .references) (a .a .now ++ (a .b .now ++ (a .c .now ++ (a .d .now ++ a .e .now)))) _ h (c .before .before .before .before .before .before .emit-step .ensures .1) _ (c .enum-told .given .1) (c .before .before .before .before .before .before .emit-step .ensures .0)
 
 pub emit-spec : {M : Type 1} → statement M
 emit-spec =
@@ -108,6 +115,8 @@ emit-spec =
     enum-known-i
     enum-told
     same-length
-    returns
     same-length-2
+    returns
+    same-length-3
+    same-length-4
     returns-2)

@@ -20,8 +20,11 @@ emit-requires c κs = search needs
 same-length : tie.Need-same-length
 same-length c = search needs
 
+same-length-2 : tie.Need-same-length-2
+same-length-2 c = search needs
+
 returns : tie.Need-returns
-returns c = let a = c .before .before .before .before .before .before .before .before .before .before .args in emits-same (two-parts (a .a .now) (a .b .now) _ _ _ refl refl refl) (c .before .before .emit .ensures)
+returns c = let a = c .before .before .before .before .before .before .before .before .before .before .before .before .before .before .args in emits-same (two-parts (a .a .now) (a .b .now) _ _ _ refl refl refl) (c .before .before .before .before .emit .ensures)
 
 pub emit2-spec : {M : Type 1} → statement M
 emit2-spec =
@@ -32,4 +35,5 @@ emit2-spec =
     slice-aggregate-emit-3
     emit-requires
     same-length
+    same-length-2
     returns)
