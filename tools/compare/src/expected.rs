@@ -1,11 +1,17 @@
-//! What the published Rust answers to a list, and what it leaves in the ledger.
+//! What the published Rust answers to a list, and what it leaves in the ledger. Where it can't hold the ledger, a plain list of
+//! steps says it instead; elsewhere, if the ledger is not long, that must say the same.
+use crate::plain::steps::{self, Plain};
 use judge::bench::holding;
 use judge::call::{Answer, Call};
+use judge::desk::Desk;
 use judge::door;
 use judge::formula::Tree;
 use judge::ledger::{self, LONGEST, Step};
 use judge::session::Session;
 use std::collections::HashSet;
+
+/// In longer ledgers only the Rust is asked, if it can be: the plain list of steps looks through all of it for each step.
+const LONGEST_PLAIN: usize = 65_536;
 
 /// One byte of the ledger made another for one call: its place is the draw
 /// modulo the used length and some bytes more.
@@ -24,6 +30,8 @@ pub struct Item {
 #[derive(Clone)]
 pub struct List {
     pub length: usize,
+    /// The records that the ledger holds beforehand, whoever wrote them; none of an empty one.
+    pub start: Vec<u8>,
     pub items: Vec<Item>,
 }
 
@@ -39,8 +47,9 @@ pub struct Damaged {
 
 /// What is expected of one call.
 pub struct Expected {
-    /// None where the damaged ledger has a judgement twice: the Rust can't hold it.
-    pub answer: Option<Answer>,
+    pub answer: Answer,
+    /// The Rust did not say it: a judgement stands twice in the ledger.
+    pub twice: bool,
     /// The bytes 4 + L after it.
     pub used: usize,
     /// For refusals 6 and 7: how many bytes an output or the ledger lacked.
@@ -57,6 +66,10 @@ pub struct Run {
     pub expected: Vec<Expected>,
     pub records: Vec<u8>,
     pub steps: usize,
+    /// The number that the desk answers afterwards.
+    pub desk: i64,
+    /// How many calls the Rust and the plain list of steps were both asked.
+    pub both: usize,
 }
 
 /// The first bytes, then zeros.
@@ -77,42 +90,89 @@ pub fn read(bytes: &[u8]) -> Option<Vec<Step>> {
 }
 
 /// A session that goes on from these steps; None if a judgement stands twice.
-fn resumed(bytes: &[u8], steps: &[Step]) -> Option<Session> {
+fn resumed(length: usize, steps: &[Step]) -> Option<Session> {
     let mut known = HashSet::new();
     if !steps.iter().all(|s| known.insert(&s.2)) {
         return None;
     }
     let mut records = vec![];
     steps.iter().for_each(|s| ledger::write_record(s, &mut records));
-    Some(Session { length: bytes.len(), producer: holding(steps), records, wanted: 4 })
+    Some(Session { length, producer: holding(steps), records, wanted: 4 })
+}
+
+/// Who says what should happen in one ledger; neither where question 1 says no.
+struct Judges {
+    length: usize,
+    rust: Option<Session>,
+    plain: Option<Plain>,
+    both: usize,
+}
+
+impl Judges {
+    fn new(bytes: &[u8]) -> Self {
+        let mut judges = Self { length: bytes.len(), rust: None, plain: None, both: 0 };
+        if let Some(found) = read(bytes) {
+            judges.rust = resumed(bytes.len(), &found);
+            if judges.rust.is_none() || bytes.len() <= LONGEST_PLAIN {
+                let used = 4 + u32::from_le_bytes(bytes[..4].try_into().unwrap()) as usize;
+                judges.plain = Some(Plain::new(bytes.len(), steps::read(&bytes[4..used])));
+            }
+        }
+        judges
+    }
+    fn ask(&mut self, call: &Call) -> Answer {
+        let rust = self.rust.as_mut().map(|s| s.ask(call).0);
+        let plain = self.plain.as_mut().map(|p| p.ask(call));
+        if rust.is_some() && plain.is_some() {
+            assert_eq!(rust, plain, "the Rust and the plain list of steps: {call:?}");
+            self.both += 1;
+        }
+        rust.or(plain).unwrap_or(Answer::Refused(1))
+    }
+    fn steps(&self) -> usize {
+        match &self.rust {
+            Some(rust) => rust.steps().len(),
+            None => self.plain.as_ref().map_or(0, |p| p.steps.len()),
+        }
+    }
+    fn used(&self) -> usize {
+        match &self.rust {
+            Some(rust) => 4 + rust.records.len(),
+            None => self.plain.as_ref().map_or(4, |p| p.used),
+        }
+    }
+    /// All records, which both must agree on.
+    fn records(&self) -> Vec<u8> {
+        let plain = self.plain.as_ref().map(|p| steps::records(&p.steps));
+        let Some(rust) = &self.rust else { return plain.unwrap_or_default() };
+        assert!(plain.is_none_or(|p| p == rust.records), "the records of the Rust and of the plain list of steps");
+        rust.records.clone()
+    }
+    /// The whole slice.
+    fn bytes(&self) -> Vec<u8> {
+        whole(&ledger::whole(&self.records()), self.length)
+    }
+    /// How many bytes the last call lacked in the ledger, where the Rust said 7.
+    fn lacked(&self) -> usize {
+        self.rust.as_ref().map_or(0, |s| s.wanted - s.length)
+    }
 }
 
 /// A call on a copy of the ledger with one byte changed.
-fn ask_damaged(session: &Session, call: &Call, damage: Damage) -> Expected {
-    let used = session.used();
-    let mut bytes = whole(&used, session.length);
-    let place = damage.draw % bytes.len().min(used.len() + 16);
+fn ask_damaged(judges: &Judges, call: &Call, damage: Damage) -> Expected {
+    let mut bytes = judges.bytes();
+    let place = damage.draw % bytes.len().min(judges.used() + 16);
     bytes[place] ^= damage.flip;
     let byte = bytes[place];
-    let read = read(&bytes);
-    let steps = read.as_ref().map(Vec::len);
-    let mut outcome = Expected {
-        answer: Some(Answer::Refused(1)),
-        used: used.len(),
-        lacked: 0,
-        before: session.steps().len(),
-        after: session.steps().len(),
-        damaged: None,
-    };
-    if let Some(steps) = read {
-        let other = resumed(&bytes, &steps);
-        outcome.answer = other.map(|mut other| {
-            let (answer, _) = other.ask(call);
-            bytes = whole(&other.used(), session.length);
-            answer
-        });
-    }
-    Expected { damaged: Some(Damaged { place, byte, steps, after: bytes }), ..outcome }
+    let mut others = Judges::new(&bytes);
+    let well_formed = others.rust.is_some() || others.plain.is_some();
+    let steps = well_formed.then(|| others.steps());
+    let twice = well_formed && others.rust.is_none();
+    let answer = others.ask(call);
+    let after = if well_formed { others.bytes() } else { bytes };
+    let now = judges.steps();
+    let damaged = Some(Damaged { place, byte, steps, after });
+    Expected { answer, twice, used: judges.used(), lacked: 0, before: now, after: now, damaged }
 }
 
 /// How many bytes the shortest output lacked.
@@ -123,34 +183,41 @@ fn output_lacked(call: &Call) -> usize {
     seen.results.iter().zip(&call.rooms).map(lacks).max().unwrap_or(0)
 }
 
-fn ask_plainly(session: &mut Session, call: &Call) -> Expected {
-    let before = session.steps().len();
-    let (answer, _) = session.ask(call);
+fn ask_plainly(judges: &mut Judges, call: &Call) -> Expected {
+    let before = judges.steps();
+    let answer = judges.ask(call);
     let lacked = match answer {
         Answer::Refused(6) => output_lacked(call),
-        Answer::Refused(7) => session.wanted - session.length,
+        Answer::Refused(7) => judges.lacked(),
         _ => 0,
     };
-    Expected {
-        answer: Some(answer),
-        used: 4 + session.records.len(),
-        lacked,
-        before,
-        after: session.steps().len(),
-        damaged: None,
-    }
+    let twice = judges.rust.is_none() && judges.plain.is_some();
+    Expected { answer, twice, used: judges.used(), lacked, before, after: judges.steps(), damaged: None }
 }
 
-/// Runs a list through the published Rust, from an empty ledger.
+/// The desk's number: all steps where only calls made them, else by document 01's rules.
+fn desk(list: &List, judges: &Judges) -> i64 {
+    if judges.rust.is_none() && judges.plain.is_none() {
+        return -1;
+    }
+    let failing = if list.start.is_empty() {
+        None
+    } else {
+        Desk::default().first_failing(&read(&judges.bytes()).expect("a ledger"))
+    };
+    failing.map_or(judges.steps() as i64, |n| -(10 + 16 * n as i64))
+}
+
+/// Runs a list through the published Rust, and where it can't hold the ledger through the plain list of steps.
 pub fn run(list: &List) -> Run {
-    let mut session = Session::new(list.length);
+    let mut judges = Judges::new(&whole(&ledger::whole(&list.start), list.length));
     let mut expected = vec![];
     for item in &list.items {
         expected.push(match item.damage {
-            Some(damage) if (4..=LONGEST).contains(&list.length) => ask_damaged(&session, &item.call, damage),
-            _ => ask_plainly(&mut session, &item.call),
+            Some(damage) if (4..=LONGEST).contains(&list.length) => ask_damaged(&judges, &item.call, damage),
+            _ => ask_plainly(&mut judges, &item.call),
         });
     }
-    let steps = session.steps().len();
-    Run { expected, records: session.records, steps }
+    let desk = desk(list, &judges);
+    Run { expected, records: judges.records(), steps: judges.steps(), desk, both: judges.both }
 }

@@ -2,6 +2,7 @@
 //! their seed, made from the judge's with more that the door refuses, outputs
 //! of every length, damaged ledgers, and ledgers of exactly the bytes needed.
 use crate::expected::{self, Damage, Item, List};
+use crate::{foreign, stopped};
 use judge::bench::conjunction;
 use judge::call::{Call, Name};
 use judge::cost;
@@ -16,7 +17,7 @@ use judge::random::{Random, SHAPES, Shape};
 /// Searches of more covers are left out.
 const MOST_COVERS: u64 = 400;
 
-const SMALL: Style = Style {
+pub const SMALL: Style = Style {
     most_nodes: 15,
     most_calls: 40,
     most_covers: MOST_COVERS,
@@ -37,13 +38,25 @@ const LARGE: Style = Style {
 /// In how many of a hundred lists the formulas are large.
 const LARGE_SHARE: usize = 3;
 
-fn list_of(length: usize, calls: Vec<Call>) -> List {
+pub fn list_of(length: usize, calls: Vec<Call>) -> List {
     let items = calls.into_iter().map(|call| Item { call, damage: None }).collect();
-    List { length, items }
+    List { length, start: vec![], items }
 }
 
-/// The lists by a seed: mostly one, several for a ledger's exact length.
+/// The lists by a seed: from an empty ledger, such as 7 refuses in the middle, and from a ledger that no call made.
 pub fn made(seed: u64) -> Vec<List> {
+    let mut all = from_empty(seed);
+    if seed.is_multiple_of(4) {
+        all.extend(stopped::made(seed));
+    }
+    if seed.is_multiple_of(2) {
+        all.push(foreign::made(seed));
+    }
+    all
+}
+
+/// Mostly one, several for a ledger's exact length.
+fn from_empty(seed: u64) -> Vec<List> {
     let mut random = Random::new(!seed);
     let large = random.chance(LARGE_SHARE);
     let (length, calls) = lists::list(seed, if large { LARGE } else { SMALL });
@@ -61,7 +74,7 @@ pub fn made(seed: u64) -> Vec<List> {
 }
 
 /// A call whose search ends soon, if it has one.
-fn is_short(call: &Call) -> bool {
+pub fn is_short(call: &Call) -> bool {
     let roomy = Call { rooms: vec![usize::MAX; call.rooms.len()], ..call.clone() };
     let Ok(seen) = door::admit(&roomy) else { return true };
     let ends = |a: &Tree, b: &Tree| cost::search(a, b, MOST_COVERS).0.is_some();
@@ -170,16 +183,16 @@ fn misfit(mut list: List, random: &mut Random) -> List {
 
 /// A call that adds steps: its place in the list, the bytes used after it, those that it added.
 #[derive(Clone, Copy)]
-struct Grown {
-    item: usize,
-    used: usize,
-    new: usize,
+pub struct Grown {
+    pub item: usize,
+    pub used: usize,
+    pub new: usize,
 }
 
 /// The calls of a list that add steps, on the longest ledger.
-fn grown(list: &List) -> Vec<Grown> {
+pub fn grown(list: &List) -> Vec<Grown> {
     let free = expected::run(&List { length: LONGEST, ..list.clone() });
-    let mut before = 4;
+    let mut before = 4 + list.start.len();
     let mut out = vec![];
     for (item, expected) in free.expected.iter().enumerate() {
         let used = expected.used;
@@ -201,7 +214,7 @@ fn tight(list: List, random: &mut Random) -> Vec<List> {
     let Grown { item, used, new } = *random.pick(&grown);
     let items = list.items[..list.items.len().min(item + 4)].to_vec();
     let lengths = [used, used - 1, used - random.between(1, new)];
-    lengths.map(|length| List { length, items: items.clone() }).into()
+    lengths.map(|length| List { length, items: items.clone(), ..list.clone() }).into()
 }
 
 /// The list on ledgers of exactly the bytes that it needs up to each of its
@@ -230,12 +243,12 @@ fn by_threes(calls: &[Call]) -> Vec<List> {
 }
 
 /// Every call on formulas of 511 nodes of one shape.
-fn largest(shape: Shape, dims: usize) -> Vec<List> {
+pub fn largest(shape: Shape, dims: usize) -> Vec<Call> {
     let f = limit(Sort::Face, shape, 256, dims);
     let r = limit(Sort::Interval, shape, 256, dims);
     let (d, k) = (dims, dims / 2);
     let (zero_face, one_face) = operations::boundary(&r);
-    let mut calls = vec![
+    vec![
         on(Name::Face, d, &f),
         on(Name::Face, d - 1, &f),
         on(Name::Interval, d, &r),
@@ -255,15 +268,18 @@ fn largest(shape: Shape, dims: usize) -> Vec<List> {
         Call::endpoint(d, &zero_face, &r, false),
         Call::endpoint(d, &one_face, &r, true),
         Call::endpoint(d, &ft(), &r, true),
-    ];
-    calls.retain(is_short);
-    by_threes(&calls)
+    ]
+}
+
+/// Those of them whose search ends soon.
+fn largest_lists(shape: Shape, dims: usize) -> Vec<List> {
+    by_threes(&largest(shape, dims).into_iter().filter(is_short).collect::<Vec<_>>())
 }
 
 /// Chains of negations up to the limit and above it.
-fn chains() -> Vec<List> {
+pub fn chains() -> Vec<Call> {
     let (odd, even) = (chain(511, 3), chain(510, 254));
-    by_threes(&[
+    vec![
         on(Name::Interval, 4, &odd),
         on(Name::Interval, 3, &odd),
         on(Name::Interval, 255, &even),
@@ -280,7 +296,7 @@ fn chains() -> Vec<List> {
         Call::endpoint(4, &zero(3), &odd, false),
         Call::endpoint(4, &zero(3), &odd, true),
         Call::endpoint(255, &zero(254), &even, true),
-    ])
+    ]
 }
 
 /// Operands far longer than any formula that is let in.
@@ -326,11 +342,12 @@ pub fn fixed() -> Vec<List> {
     let small = fixed::every_kind().into_iter().map(|(length, calls)| list_of(length, calls));
     all.extend(small.flat_map(every_fit));
     for dims in [5, 100] {
-        all.extend(SHAPES.iter().flat_map(|shape| largest(*shape, dims)));
+        all.extend(SHAPES.iter().flat_map(|shape| largest_lists(*shape, dims)));
     }
-    all.extend(largest(Shape::Scattered, 254));
-    all.extend(chains());
+    all.extend(largest_lists(Shape::Scattered, 254));
+    all.extend(by_threes(&chains()));
     all.push(long_operands());
     all.extend(conjunctions());
+    all.extend(foreign::fixed());
     all
 }

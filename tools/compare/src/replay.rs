@@ -1,10 +1,10 @@
 //! A list asked of our library, call by call, held against what is expected.
-use crate::expected::{Expected, Item, List, Run};
+use crate::expected::{Expected, Item, List, Run, whole};
 use crate::lent::Lent;
 use crate::library;
 use crate::stack::on_stack;
 use judge::call::{Answer, Call};
-use judge::ledger::LONGEST;
+use judge::ledger::{self, LONGEST};
 
 /// The stack that the library gets.
 pub const STACK: usize = 2 << 20;
@@ -23,8 +23,9 @@ struct Ledgers {
 }
 
 impl Ledgers {
-    fn new(length: usize) -> Self {
-        Self { ours: Lent::zeros(length), expected: vec![0; length], used: 4 }
+    fn new(list: &List) -> Self {
+        let expected = whole(&ledger::whole(&list.start), list.length);
+        Self { ours: Lent::new(&expected), expected, used: 4 + list.start.len() }
     }
     /// The expected ledger with the records that a call added.
     fn grow(&mut self, records: &[u8], used: usize) {
@@ -77,9 +78,7 @@ fn ask_damaged(ledgers: &mut Ledgers, item: &Item, expected: &Expected, start: u
     let steps = damaged.steps.map_or(-1, |n| n as i64);
     same_number("lf_well_formed", library::well_formed(ledgers.ours.content()), steps)?;
     let mut bytes = damaged.after.len();
-    if let Some(answer) = &expected.answer {
-        bytes += ask(ledgers.ours.slice(), &item.call, answer, start)?;
-    }
+    bytes += ask(ledgers.ours.slice(), &item.call, &expected.answer, start)?;
     ledgers.ours.same("the damaged ledger", &damaged.after)?;
     ledgers.ours.slice().copy_from_slice(&ledgers.expected);
     Ok(bytes)
@@ -92,25 +91,24 @@ fn ask_plainly(
     run: &Run,
     start: usize,
 ) -> Result<usize, String> {
-    let answer = expected.answer.as_ref().expect("an answer of the Rust");
-    let bytes = ask(ledgers.ours.slice(), &item.call, answer, start)?;
+    let bytes = ask(ledgers.ours.slice(), &item.call, &expected.answer, start)?;
     ledgers.grow(&run.records, expected.used);
     ledgers.ours.same("the ledger", &ledgers.expected)?;
     Ok(bytes + ledgers.expected.len())
 }
 
-/// After the list: the ledger is well formed and the desk passes all its steps.
+/// After the list: the ledger is well formed, and the desk says what it should.
 fn finish(ledgers: &Ledgers, run: &Run) -> Result<usize, String> {
     let bytes = ledgers.ours.content();
     let steps = if (4..=LONGEST).contains(&bytes.len()) { run.steps as i64 } else { -1 };
     same_number("lf_well_formed", library::well_formed(bytes), steps)?;
-    same_number("lf_step_desk", library::step_desk(bytes), steps)?;
+    same_number("lf_step_desk", library::step_desk(bytes), run.desk)?;
     ledgers.ours.same("the ledger after the desk", &ledgers.expected)?;
     Ok(bytes.len())
 }
 
 fn whole_list(list: &List, run: &Run) -> Result<u64, Difference> {
-    let mut ledgers = Ledgers::new(list.length);
+    let mut ledgers = Ledgers::new(list);
     let mut bytes = 0;
     for (i, (item, expected)) in list.items.iter().zip(&run.expected).enumerate() {
         let asked = match expected.damaged {

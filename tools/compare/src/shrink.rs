@@ -67,16 +67,16 @@ pub fn smallest(list: &List, difference: Difference) -> (List, Difference) {
 /// a line that readers of the sample skip.
 pub fn text(list: &List, run: &Run) -> String {
     let mut out = format!("list 1\nledger {}\n", list.length);
+    if !list.start.is_empty() {
+        writeln!(out, "# the ledger holds these records beforehand: {}", HEX(&list.start)).unwrap();
+    }
     for (item, expected) in list.items.iter().zip(&run.expected) {
         if let Some(damaged) = &expected.damaged {
             let (place, byte) = (damaged.place, damaged.byte);
             writeln!(out, "# for the next call only, byte {place} of the ledger is {byte}").unwrap();
         }
         writeln!(out, "{}", call_line(&item.call, HEX)).unwrap();
-        match &expected.answer {
-            Some(answer) => writeln!(out, "{}", answer_line(answer, HEX)).unwrap(),
-            None => writeln!(out, "# not asked").unwrap(),
-        }
+        writeln!(out, "{}", answer_line(&expected.answer, HEX)).unwrap();
     }
     let used = judge::ledger::whole(&run.records);
     out + &ending_line(&used, HEX)

@@ -1,5 +1,7 @@
 //! Counts of what was compared.
 use crate::expected::{Expected, Item, List, Run};
+use crate::foreign;
+use crate::plain::steps;
 use judge::call::{Answer, CALLS, Call};
 use judge::formula::has_dimension;
 use judge::ledger::MOST_NODES;
@@ -7,6 +9,66 @@ use std::fmt;
 
 /// Answers by their number: 0 for yes, else the refusal.
 const ANSWERS: usize = 10;
+
+/// Calls behind one that 7 refused, on the same ledger.
+#[derive(Default)]
+pub struct AfterSeven {
+    pub lists: u64,
+    /// Those that added steps, those that did not, and those that 7 refused again.
+    pub grew: u64,
+    pub stayed: u64,
+    pub again: u64,
+}
+
+impl AfterSeven {
+    fn add(&mut self, run: &Run) {
+        let mut calls = run.expected.iter().skip_while(|e| e.answer != Answer::Refused(7)).skip(1).peekable();
+        self.lists += u64::from(calls.peek().is_some());
+        for expected in calls {
+            match &expected.answer {
+                Answer::Refused(7) => self.again += 1,
+                _ if expected.after > expected.before => self.grew += 1,
+                _ => self.stayed += 1,
+            }
+        }
+    }
+}
+
+/// Ledgers that no call made.
+#[derive(Default)]
+pub struct Strange {
+    pub ledgers: u64,
+    pub twice: u64,
+    /// Ledgers with false cover steps, and how many these are.
+    pub with_false: u64,
+    pub false_covers: u64,
+    pub failing: u64,
+    pub calls: u64,
+    /// Calls asked a second time in a row, and those that only the plain list of steps could judge.
+    pub again: u64,
+    pub judged: u64,
+    pub yes: u64,
+    pub not_implied: u64,
+    pub grew: u64,
+}
+
+impl Strange {
+    fn add(&mut self, list: &List, run: &Run) {
+        let traits = foreign::traits(&steps::read(&list.start));
+        self.ledgers += 1;
+        self.twice += u64::from(traits.twice);
+        self.with_false += u64::from(traits.false_covers > 0);
+        self.false_covers += traits.false_covers as u64;
+        self.failing += u64::from(run.desk < 0);
+        self.calls += list.items.len() as u64;
+        self.again += list.items.windows(2).filter(|two| two[0].call == two[1].call).count() as u64;
+        let count = |is: fn(&Expected) -> bool| run.expected.iter().filter(|e| is(e)).count() as u64;
+        self.judged += count(|e| e.twice);
+        self.yes += count(|e| matches!(e.answer, Answer::Yes(..)));
+        self.not_implied += count(|e| e.answer == Answer::Refused(9));
+        self.grew += count(|e| e.after > e.before);
+    }
+}
 
 #[derive(Default)]
 pub struct Tally {
@@ -18,9 +80,13 @@ pub struct Tally {
     pub short_ledgers: u64,
     pub long_ledgers: u64,
     pub ill_formed: u64,
-    /// Damaged ledgers that stayed well formed: asked, and only read.
+    /// Damaged ledgers that stayed well formed, and those of them that have a judgement twice.
     pub foreign: u64,
     pub twice: u64,
+    /// Calls that both the Rust and the plain list of steps were asked.
+    pub both: u64,
+    pub after_seven: AfterSeven,
+    pub strange: Strange,
     /// Ledgers filled to their last byte, and 7 for one byte and for more.
     pub filled: u64,
     pub seven_by_one: u64,
@@ -61,15 +127,17 @@ impl Tally {
     pub fn add(&mut self, list: &List, run: &Run) {
         self.lists += 1;
         self.steps += run.steps as u64;
+        self.both += run.both as u64;
+        self.after_seven.add(run);
+        if !list.start.is_empty() {
+            self.strange.add(list, run);
+        }
         for (item, expected) in list.items.iter().zip(&run.expected) {
             self.add_call(list, item, expected);
         }
     }
     fn add_call(&mut self, list: &List, item: &Item, expected: &Expected) {
-        let Some(answer) = &expected.answer else {
-            self.twice += 1;
-            return;
-        };
+        let answer = &expected.answer;
         let row = CALLS.iter().position(|s| s.name == item.call.name).unwrap();
         let column = if let Answer::Refused(q) = answer { *q } else { 0 };
         self.answers[row][column] += 1;
@@ -80,6 +148,7 @@ impl Tally {
         }
         if expected.damaged.as_ref().is_some_and(|d| d.steps.is_some()) {
             self.foreign += 1;
+            self.twice += u64::from(expected.twice);
         }
     }
     fn add_refusal(&mut self, list: &List, question: usize, expected: &Expected) {
@@ -103,6 +172,21 @@ impl Tally {
             self.old_numbers += u64::from(step < expected.before);
             self.filled += u64::from(expected.after > expected.before && expected.used == list.length);
         }
+    }
+}
+
+impl fmt::Display for Strange {
+    fn fmt(&self, f: &mut fmt::Formatter<'_>) -> fmt::Result {
+        writeln!(
+            f,
+            "ledgers that no call made: {}, with a judgement twice {}, with false cover steps {} ({} such steps), refused by the desk {}",
+            self.ledgers, self.twice, self.with_false, self.false_covers, self.failing
+        )?;
+        write!(
+            f,
+            "calls on them: {}, {} yes, {} refused by 9, {} that added steps; asked a second time in a row {}; judged by the plain list of steps alone {}",
+            self.calls, self.yes, self.not_implied, self.grew, self.again, self.judged
+        )
     }
 }
 
@@ -130,7 +214,7 @@ impl fmt::Display for Tally {
         writeln!(f, "| all | {} | {} |\n", self.calls(), all.join(" | "))?;
         writeln!(
             f,
-            "1: ledger too short {}, too long {}, damaged {}; damaged ledgers still well formed: {} asked, {} with a judgement twice only read",
+            "1: ledger too short {}, too long {}, damaged {}; damaged ledgers still well formed: {}, {} of them with a judgement twice",
             self.short_ledgers, self.long_ledgers, self.ill_formed, self.foreign, self.twice
         )?;
         writeln!(
@@ -148,6 +232,14 @@ impl fmt::Display for Tally {
             "answers with an older step's number {}, failing calls that left steps {}, operands of 511 nodes {}",
             self.old_numbers, self.left_steps, self.largest
         )?;
+        let after = &self.after_seven;
+        writeln!(
+            f,
+            "behind a 7 on the same ledger, in {} lists: {} calls that added steps, {} that did not, {} refused by 7 again",
+            after.lists, after.grew, after.stayed, after.again
+        )?;
+        writeln!(f, "{}", self.strange)?;
+        writeln!(f, "the plain list of steps agreed with the Rust in {} calls", self.both)?;
         write!(f, "differences: {}", self.differences)
     }
 }

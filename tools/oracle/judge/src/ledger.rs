@@ -129,6 +129,11 @@ pub fn expression(t: &Tree) -> Sexp {
 /// How many references each rule has: its judgements after the first.
 static REFERENCES: LazyLock<[usize; 75]> = LazyLock::new(|| rules::RULES.map(|r| expressions(r).len() - 2));
 
+/// The same by the rule's kind.
+pub fn references(kind: usize) -> usize {
+    REFERENCES[kind - 1]
+}
+
 /// A reader over bytes that answers None where they end early or are wrong.
 struct Reader<'a>(&'a [u8]);
 
@@ -173,7 +178,7 @@ impl<'a> Reader<'a> {
         let mut record = Reader(self.part(length)?);
         let kind = record.number(2).filter(|k| (1..=rules::RULES.len()).contains(k))?;
         let rule = rules::name(kind);
-        let refs = (0..REFERENCES[kind - 1]).map(|_| record.number(4).filter(|r| *r < own));
+        let refs = (0..references(kind)).map(|_| record.number(4).filter(|r| *r < own));
         let refs = refs.collect::<Option<Vec<_>>>()?;
         let predicate = rules::predicate(rule);
         let sorts = rules::operands(predicate)?;

@@ -24,7 +24,8 @@ fn hex(bytes: &[u8]) -> String {
     bytes.iter().map(|b| format!("{b:02x}")).collect()
 }
 
-fn unhex(word: &str) -> Option<Vec<u8>> {
+/// The bytes that were printed in hex.
+pub fn unhex(word: &str) -> Option<Vec<u8>> {
     if word == "-" {
         return Some(vec![]);
     }
@@ -82,6 +83,12 @@ fn read_call<'a>(word: &str, mut words: impl Iterator<Item = &'a str>) -> Option
     let rooms = (0..signature.outputs).map(|_| number()).collect::<Option<Vec<_>>>()?;
     let operands = signature.sorts.iter().map(|_| unhex(words.next()?)).collect::<Option<Vec<_>>>()?;
     words.next().is_none().then_some(Call { name: signature.name, number: n, one, rooms, operands })
+}
+
+/// The call of one line.
+pub fn call(line: &str) -> Option<Call> {
+    let mut words = line.split(' ');
+    read_call(words.next()?, words)
 }
 
 /// Takes one line into the entries.

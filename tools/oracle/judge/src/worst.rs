@@ -93,7 +93,8 @@ fn deep_intervals(high: u8) -> [(String, Tree); 2] {
     ]
 }
 
-fn deep_calls() -> Vec<(String, Call)> {
+/// Every call at the limits, in the shapes that nest deepest.
+pub fn deep_calls() -> Vec<(String, Call)> {
     let mut out = vec![];
     for (words, f) in deep_faces(255) {
         out.push((words.clone(), Call::new(Name::Face, 255, &[&f])));
@@ -264,6 +265,11 @@ fn same_thirds(n: usize) -> (Tree, Tree) {
     (conjoined(vec![or(ft(), or(ft(), ft())); n]), or(ff(), ft()))
 }
 
+/// The goal is hit only when all groups are taken apart.
+fn same_literals(n: usize) -> (Tree, Tree) {
+    (conjoined(vec![or(zero(0), zero(0)); n]), and(zero(0), ft()))
+}
+
 /// All branches succeed but those of the first group's right half.
 fn nearly_true(n: usize) -> (Tree, Tree) {
     let mut groups = vec![or(zero(0), ft())];
@@ -303,7 +309,34 @@ fn turned(n: usize) -> (Tree, Tree) {
     (conjunction(0..n), conjunction((0..n).rev()))
 }
 
-type Family = fn(usize) -> (Tree, Tree);
+pub type Family = fn(usize) -> (Tree, Tree);
+
+/// Searches that repeat themselves, with the sizes that the Rust ends on soon.
+pub const EXPONENTIAL: [(&str, Family, &[usize]); 4] = [
+    ("n times (ft for ft), to ff for ft, d 0", same_halves, &[4, 8, 12, 14, 16]),
+    ("n times (ft for (ft for ft)), to ff for ft, d 0", same_thirds, &[4, 8, 10]),
+    ("0 for ft, n times (ft for ft), to 0 fand 0", nearly_true, &[8, 12]),
+    ("n times (0 for 0), to 0 fand ft", same_literals, &[]),
+];
+
+/// Searches that emit most; the sizes are below those whose steps no ledger holds.
+pub const EMITTING: [(&str, Family, &[usize]); 4] = [
+    ("(0 for 0') fand (1 for 1') .., to ff for ft", both_sides, &[4, 8]),
+    ("(0 for 1) fand (2 for 3) .. fand (0' fand 1'), to ff", late_clash, &[4, 8]),
+    ("0 for 1, n groups of three, two of two, 0' fand 1', to ff", mixed, &[3, 4]),
+    ("n literals, to the same turned round", turned, &[32, 64]),
+];
+
+/// The question of a family at this size, d being the least that suffices.
+pub fn question(family: Family, n: usize) -> Call {
+    let (a, b) = family(n);
+    entails(a.bound().max(b.bound()), &a, &b)
+}
+
+/// The largest size that the door lets in.
+pub fn largest(family: Family) -> usize {
+    (1..).take_while(|n| door::admit(&question(family, *n)).is_ok()).last().expect("a size")
+}
 
 fn family_row(words: &str, n: usize, family: Family) {
     let (a, b) = family(n);
@@ -322,14 +355,8 @@ const FAMILY: [&str; 9] =
 
 fn exponential() {
     table("Exponential time, few steps", &FAMILY);
-    for n in [4, 8, 12, 14, 16] {
-        family_row("n times (ft for ft), to ff for ft, d 0", n, same_halves);
-    }
-    for n in [4, 8, 10] {
-        family_row("n times (ft for (ft for ft)), to ff for ft, d 0", n, same_thirds);
-    }
-    for n in [8, 12] {
-        family_row("0 for ft, n times (ft for ft), to 0 fand 0", n, nearly_true);
+    for (words, family, sizes) in EXPONENTIAL {
+        sizes.iter().for_each(|n| family_row(words, *n, family));
     }
 }
 
@@ -344,13 +371,7 @@ fn first_over(family: Family, from: usize) -> usize {
 
 fn emission() {
     table("Most steps: the last row of each is the first that no ledger of 1,048,576 bytes holds", &FAMILY);
-    let families: [(&str, Family, &[usize]); 4] = [
-        ("(0 for 0') fand (1 for 1') .., to ff for ft", both_sides, &[4, 8]),
-        ("(0 for 1) fand (2 for 3) .. fand (0' fand 1'), to ff", late_clash, &[4, 8]),
-        ("0 for 1, n groups of three, two of two, 0' fand 1', to ff", mixed, &[3, 4]),
-        ("n literals, to the same turned round", turned, &[32, 64]),
-    ];
-    for (words, family, sizes) in families {
+    for (words, family, sizes) in EMITTING {
         sizes.iter().for_each(|n| family_row(words, *n, family));
         family_row(words, first_over(family, *sizes.last().unwrap() + 1), family);
     }
@@ -358,7 +379,8 @@ fn emission() {
 
 // Climbing: keep a change when the score does not fall.
 
-fn some_node<'a>(t: &'a mut Tree, random: &mut Random) -> &'a mut Tree {
+/// Any node, more often one near the root.
+pub fn some_node<'a>(t: &'a mut Tree, random: &mut Random) -> &'a mut Tree {
     if t.parts.is_empty() || random.chance(25) {
         return t;
     }
@@ -380,7 +402,8 @@ fn turned_left(t: &Tree) -> Option<Tree> {
     Some(pair(right.kind, pair(t.kind, x.clone(), y.clone()), z.clone()))
 }
 
-fn changed(t: &Tree, random: &mut Random, dims: &[u8]) -> Tree {
+/// The tree with one node changed: its kind, its parts exchanged or turned, or another face of its size.
+pub fn changed(t: &Tree, random: &mut Random, dims: &[u8]) -> Tree {
     let mut t = t.clone();
     let shape = *random.pick(&SHAPES);
     let node = some_node(&mut t, random);
