@@ -15,3 +15,4 @@ pub mod stack;
 pub mod stopped;
 pub mod tally;
 pub mod texts;
+pub mod watched;

@@ -144,7 +144,12 @@ pub fn number(answer: &Answer) -> i64 {
     }
 }
 
-/// The library's number in words.
+/// The library's number as yes and the step, or refused and the number.
+pub fn said(number: i64) -> String {
+    if number < 0 { format!("refused {}", -number) } else { format!("yes {}", number & 0xffff_ffff) }
+}
+
+/// The library's number with all that is in it.
 pub fn words(number: i64) -> String {
     if number < 0 {
         return format!("{number}");

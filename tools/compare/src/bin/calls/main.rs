@@ -3,6 +3,7 @@
 use compare::expected::whole;
 use compare::lent::Lent;
 use compare::library;
+use compare::watched::worker;
 use judge::bench::*;
 use judge::call::{Call, Name};
 use judge::fixed::{dim, ff, ft, or, zero};
@@ -12,13 +13,15 @@ use judge::session::{Session, drive, fresh};
 use published::cubical::engine::face_frontend::FaceProducer;
 use std::time::{Duration, Instant};
 
+mod worst;
+
 /// The time that one row may take, both sides together.
 const BUDGET: Duration = Duration::from_millis(200);
 
-/// One row: both medians, and what the call did.
-struct Row {
-    ours: Duration,
-    rust: Duration,
+/// One row: both times, where there are such, and what the call did.
+struct Cells {
+    ours: Option<Duration>,
+    rust: Option<Duration>,
     steps: usize,
     bytes: usize,
     answer: String,
@@ -58,13 +61,9 @@ impl Ours {
     }
 }
 
-fn words(number: i64) -> String {
-    if number < 0 { format!("refused {}", -number) } else { format!("yes {}", number & 0xffff_ffff) }
-}
-
 /// Both sides in turn, so that they meet the same load of the machine. The
 /// Rust has a fresh producer each time, and all terms in its table already.
-fn measure(call: &Call, before: &[Step], length: usize) -> Row {
+fn measure(call: &Call, before: &[Step], length: usize) -> Cells {
     let mut known = session(before, length);
     let mut ours = Ours::new(call, whole(&known.used(), length));
     let used = known.used().len();
@@ -80,12 +79,12 @@ fn measure(call: &Call, before: &[Step], length: usize) -> Row {
         our_times.push(ours.timed().0);
         rust_times.push(timed(holding(before), &call).0);
     }
-    Row {
-        ours: median(our_times),
-        rust: median(rust_times),
+    Cells {
+        ours: Some(median(our_times)),
+        rust: Some(median(rust_times)),
         steps: known.steps().len() - before.len(),
         bytes: known.used().len() - used,
-        answer: words(number),
+        answer: library::said(number),
     }
 }
 
@@ -101,16 +100,21 @@ impl Table {
         println!("|---|---|---|---|---|---|---|---|");
     }
     fn row(&mut self, what: &str, call: &Call, before: Before, length: usize) {
-        let row = fresh(|| measure(call, &before(), length));
-        let ratio = ratio(row.ours, row.rust);
-        self.ratios.push((ratio, format!("{what}, ledger {length}")));
+        let cells = fresh(|| measure(call, &before(), length));
+        self.print(what, length, &cells);
+    }
+    fn print(&mut self, what: &str, length: usize, cells: &Cells) {
+        let ratio = cells.ours.zip(cells.rust).map(|(ours, rust)| ratio(ours, rust));
+        self.ratios.extend(ratio.map(|ratio| (ratio, format!("{what}, ledger {length}"))));
+        let time = |time: Option<Duration>| time.map_or("-".into(), |t| format!("{:.1}", micros(t)));
         println!(
-            "| {what} | {length} | {} | {} | {} | {:.1} | {:.1} | {ratio:.2} |",
-            row.answer,
-            row.steps,
-            row.bytes,
-            micros(row.ours),
-            micros(row.rust)
+            "| {what} | {length} | {} | {} | {} | {} | {} | {} |",
+            cells.answer,
+            cells.steps,
+            cells.bytes,
+            time(cells.ours),
+            time(cells.rust),
+            ratio.map_or("-".into(), |ratio| format!("{ratio:.2}"))
         );
     }
     /// A row on an empty ledger whose length is the lowest power of two that holds the steps.
@@ -120,7 +124,11 @@ impl Table {
     fn summary(&mut self) {
         self.ratios.sort_by(|a, b| a.0.total_cmp(&b.0));
         let (least, most) = (&self.ratios[0], &self.ratios[self.ratios.len() - 1]);
-        println!("\n{} rows. Median of the ratios {:.2};", self.ratios.len(), self.ratios[self.ratios.len() / 2].0);
+        println!(
+            "\n{} rows with both times. Median of the ratios {:.2};",
+            self.ratios.len(),
+            self.ratios[self.ratios.len() / 2].0
+        );
         println!("the least {:.2} ({}), the largest {:.2} ({}).", least.0, least.1, most.0, most.1);
     }
 }
@@ -259,6 +267,9 @@ fn growth_rows() {
 }
 
 fn main() {
+    if worker::served() {
+        return;
+    }
     println!("Times of our library and of the published Rust (release build) on the same inputs, in one run, in turn;");
     println!("medians. Ours takes bytes, asks all the questions and writes the ledger's bytes; the Rust has its trees");
     println!("built already, a fresh producer that holds the ledger's steps, and all terms in its table already.");
@@ -268,5 +279,6 @@ fn main() {
     load_rows(&mut table);
     conjunction_rows(&mut table);
     growth_rows();
+    worst::rows(&mut table);
     table.summary();
 }
