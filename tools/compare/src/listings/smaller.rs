@@ -79,11 +79,21 @@ pub fn operands(sort: Sort, bytes: &[u8]) -> Vec<Vec<u8>> {
 
 /// What is left of the bytes when smaller ones are tried as long as they still differ.
 pub fn smallest(bytes: &[u8], candidates: impl Fn(&[u8]) -> Vec<Vec<u8>>, differs: impl Fn(&[u8]) -> bool) -> Vec<u8> {
+    smallest_within(PATIENCE, bytes, candidates, differs)
+}
+
+/// The same, tried for this time.
+pub fn smallest_within(
+    patience: Duration,
+    bytes: &[u8],
+    candidates: impl Fn(&[u8]) -> Vec<Vec<u8>>,
+    mut differs: impl FnMut(&[u8]) -> bool,
+) -> Vec<u8> {
     let size = |b: &[u8]| (b.len(), b.iter().map(|b| u64::from(*b)).sum::<u64>());
     let (mut best, start) = (bytes.to_vec(), Instant::now());
     loop {
         let smaller = candidates(&best).into_iter().filter(|c| size(c) < size(&best));
-        let mut tried = smaller.take_while(|_| start.elapsed() < PATIENCE);
+        let mut tried = smaller.take_while(|_| start.elapsed() < patience);
         match tried.find(|c| differs(c)) {
             Some(found) => best = found,
             None => return best,
