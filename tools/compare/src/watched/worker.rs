@@ -16,7 +16,8 @@ use judge::ledger;
 use judge::text::{self, HEX};
 use std::hint::black_box;
 use std::io::{BufRead, Write, stdin, stdout};
-use std::time::Instant;
+use std::os::unix::process::parent_id;
+use std::time::{Duration, Instant};
 
 /// The argument by which a program is told to be this process.
 pub const ORDER: &str = "--worker";
@@ -102,10 +103,22 @@ fn obey_all() {
     }
 }
 
+/// Ends this process once the one that gives the orders is gone, so that no call runs on by itself.
+fn end_with_parent() {
+    let parent = parent_id();
+    std::thread::spawn(move || {
+        while parent_id() == parent {
+            std::thread::sleep(Duration::from_secs(1));
+        }
+        std::process::exit(1);
+    });
+}
+
 /// Whether this process was told to make calls; it has done so then, until its input ended.
 pub fn served() -> bool {
     let told = std::env::args().nth(1).as_deref() == Some(ORDER);
     if told {
+        end_with_parent();
         on_stack(STACK, "calls", obey_all);
     }
     told
