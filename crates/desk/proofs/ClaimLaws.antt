@@ -15,10 +15,12 @@ use Rattle.calculus.specs.Table.{Entry, entry, unlisted, table, entryOf, predic
 use Rattle.calculus.specs.Rules.{Rule, stepAt, judgementAt, Follows}
 use Rattle.kinds.specs.Kinds.{numberOf}
 use Rattle.ledger.specs.Ledger.{stepsOf, placeOf, Led, Points}
+use Rattle.ledger.specs.Noting.{Noted}
 use Rattle.ledger.proofs.LedgerLaws.{formed-at-0, below-one}
 use Rattle.ledger.proofs.PointLaws.{inside, points-operands}
+use Rattle.ledger.proofs.NotingLaws.{noted-below}
 use Rattle.rules.specs.Standing.{Lies, AllStand, Decides, Ruled}
-use Rattle.desk.specs.Walking.{Indexed, Claimed, Filled, Fills, cited}
+use Rattle.desk.specs.Walking.{Claimed, Filled, Fills, cited}
 
 -- At most three references ------------------------------------------------------------------------
 
@@ -78,17 +80,14 @@ module _ (l : List ℕ) (m : ℕ) {p a b i : ℕ} (preds from to : List ℕ) (fe
 pub filled-none : (l numbers preds from to : List ℕ) → length preds ≡ 4 → length from ≡ 4 → length to ≡ 4 → Filled l numbers 0 preds from to
 filled-none l numbers preds from to e f g = record { size = (e, f, g); each = λ j q. absurd (omega arith) }
 
--- A reference, and the index up to it -----------------------------------------------------------------
-
-pub indexed-below : {L : List Step} {n m : ℕ} {index : List ℕ} → m ≤ n → Indexed L n index → Indexed L m index
-indexed-below b x = record { size = x .size; places = λ k p. x .places k (omega arith) }
+-- A reference, and the places up to it -----------------------------------------------------------------
 
 module _ {l : List ℕ} {step at : ℕ} (p : Points l step at) (j i : ℕ) (q : j < length ((stepAt (stepsOf l) step) .references)) (e : i ≡ getD ((stepAt (stepsOf l) step) .references) j 0) where
   earlier : i < step
   earlier = omega (arith, below-one step ((stepAt (stepsOf l) step) .references) j (formed-at-0 (p .led) step (p .inside) .earlier) q)
 
-  pub reference-sought : {index : List ℕ} → Indexed (stepsOf l) step index → Led l × (i < length (stepsOf l)) × Indexed (stepsOf l) (suc i) index
-  reference-sought x = (p .led, omega (arith, earlier, p .inside), indexed-below earlier x)
+  pub reference-sought : {places : List ℕ} → Noted (stepsOf l) step places → Led l × (i < length (stepsOf l)) × Noted (stepsOf l) (suc i) places
+  reference-sought x = (p .led, omega (arith, earlier, p .inside), noted-below earlier x)
 
   pub reference-points : {s a : ℕ} → (s ≡ i) × (a ≡ placeOf (stepsOf l) i) → Points l s a
   reference-points f = record { led = p .led; inside = omega (arith, earlier, p .inside, f .0); place = f .1 ∙ ap (placeOf (stepsOf l)) (sym (f .0)) }

@@ -1,4 +1,3 @@
-pub mod IndexLaws
 pub mod ClaimLaws
 pub mod PassLaws
 pub mod Verdicts

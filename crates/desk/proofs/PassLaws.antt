@@ -3,7 +3,7 @@ use mathlib.Core.Path.{_≡_, refl, sym, ap, _∙_, subst}
 use mathlib.Core.Bool.{Bool, true, false}
 use mathlib.Core.Option.{Option, none, some}
 use mathlib.Core.List.{List}
-use Prim.Native.Nat.{ℕ, suc, _≤_, _<_}
+use Prim.Native.Nat.{ℕ, suc, _*_, _≤_, _<_}
 use native.Mathlib.Omega.{arith}
 use lib.ListN.{length}
 use Rattle.calculus.specs.Judgement.{Step}
@@ -15,34 +15,40 @@ use Rattle.calculus.proofs.Desk.{judge, desk, judges-desk, Up, one-more}
 use Rattle.ledger.specs.declared.Checked.the-variants.{Steps, Ill as NoLedger}
 use Rattle.ledger.specs.Checks.{counted}
 use Rattle.ledger.specs.Ledger.{stepsOf, placeOf, Led, Points}
+use Rattle.ledger.specs.Noting.{Noted, Notes}
 use Rattle.ledger.proofs.LedgerLaws.{holds-steps, holds-led}
 use Rattle.ledger.proofs.PointLaws.{Walks, walks-start, walks-next}
+use Rattle.ledger.proofs.NotingLaws.{noted-none, few-steps, low-place}
 use Rattle.rules.specs.Standing.{Decides}
-use Rattle.desk.specs.Walking.{Indexed, Notes}
 use Rattle.desk.specs.Verdicts.{answerAs, inDocument, Answers}
 use Rattle.desk.specs.declared.Verdict.{Verdict as Answer}
 use Rattle.desk.specs.declared.Verdict.the-variants.{Ill, Fails, Passes}
 
--- Before a step: where the pass stands, the index, and that all steps before it follow.
-pub record Passing (l : List ℕ) (step at : ℕ) (index : List ℕ) : Type 0 where
+-- Before a step: where the pass stands, the places that are noted, and that all steps before it follow.
+pub record Passing (l : List ℕ) (step at : ℕ) (places : List ℕ) : Type 0 where
   pub walks : Walks l step at
-  pub indexed : Indexed (stepsOf l) step index
+  pub size : length places ≡ 10923
+  pub noted : Noted (stepsOf l) step places
   pub up : Up (stepsOf l) step
 
-pub passing-start : {l : List ℕ} → Led l → (index : List ℕ) → length index ≡ 10923 → Passing l 0 4 index
-passing-start h index e = record { walks = walks-start h; indexed = record { size = e; places = λ k p. absurd (omega arith) }; up = λ j b. absurd (omega arith) }
+pub passing-start : {l : List ℕ} → Led l → (places : List ℕ) → length places ≡ 10923 → Passing l 0 4 places
+passing-start {l} h places e = record { walks = walks-start h; size = e; noted = noted-none (stepsOf l) places; up = λ j b. absurd (omega arith) }
 
-module _ {l : List ℕ} {step at : ℕ} {index : List ℕ} (g : Passing l step at index) where
+module _ {l : List ℕ} {step at : ℕ} {places : List ℕ} (g : Passing l step at places) where
   pub passing-points : step < length (stepsOf l) → Points l step at
   passing-points b = record { led = g .walks .led; inside = b; place = g .walks .place }
 
-  pub passing-on : {step′ at′ : ℕ} {index′ : List ℕ} (r : Bool) → step < length (stepsOf l) → r ≡ true → Decides r (Follows (stepsOf l) step (stepAt (stepsOf l) step)) → Notes step at index index′
-      → (step′ ≡ suc step) × (at′ ≡ placeOf (stepsOf l) (suc step)) → Passing l step′ at′ index′
-  passing-on {index′} r b e d n m =
+  pub passing-room : step < length (stepsOf l) → (step < 16 * length places) × (at < 4294967296)
+  passing-room b = (omega (arith, few-steps (passing-points b), g .size), low-place (passing-points b))
+
+  pub passing-on : {step′ at′ : ℕ} {places′ : List ℕ} (r : Bool) → step < length (stepsOf l) → r ≡ true → Decides r (Follows (stepsOf l) step (stepAt (stepsOf l) step)) → Notes step at places places′
+      → (step′ ≡ suc step) × (at′ ≡ placeOf (stepsOf l) (suc step)) → Passing l step′ at′ places′
+  passing-on {places′} r b e d n m =
       let f : Follows (stepsOf l) step (stepAt (stepsOf l) step) = subst (λ (t : Bool). Decides t (Follows (stepsOf l) step (stepAt (stepsOf l) step))) e d in
       record {
         walks = walks-next (passing-points b) m;
-        indexed = subst (λ (k : ℕ). Indexed (stepsOf l) k index′) (sym (m .0)) (n (stepsOf l) (g .walks .place) (g .indexed));
+        size = n .long ∙ g .size;
+        noted = subst (λ (k : ℕ). Noted (stepsOf l) k places′) (sym (m .0)) (n .more (stepsOf l) (g .walks .place) (g .noted));
         up = subst (Up (stepsOf l)) (sym (m .0)) (one-more step (g .up) f);
       }
 

@@ -1,22 +1,13 @@
 -- Definitions that only the contracts of private functions cite; no public contract rests on them.
--- Here: the index of places, and the claims of a step and of its references.
+-- Here: the claims of a step and of its references.
 use mathlib.Core.Path.{_≡_}
 use mathlib.Core.List.{List, _∷_}
-use Prim.Native.Nat.{ℕ, suc, _*_, _≤_, _<_}
+use Prim.Native.Nat.{ℕ, suc, _≤_, _<_}
 use lib.ListN.{length, getD}
 use Rattle.calculus.specs.Judgement.{Step}
 use Rattle.calculus.specs.Rules.{stepAt, judgementAt}
-use Rattle.ledger.specs.Ledger.{stepsOf, placeOf}
+use Rattle.ledger.specs.Ledger.{stepsOf}
 use Rattle.rules.specs.Standing.{Stands}
-
--- The index holds the place of every 16th step below n.
-pub record Indexed (L : List Step) (n : ℕ) (index : List ℕ) : Type 0 where
-  pub size : length index ≡ 10923
-  pub places : (k : ℕ) → 16 * k < n → getD index k 0 ≡ placeOf L (16 * k)
-
--- A place more, in any ledger.
-abbrev pub Notes : ℕ → ℕ → List ℕ → List ℕ → Type 0
-Notes step at index index′ = (L : List Step) → at ≡ placeOf L step → Indexed L step index → Indexed L (suc step) index′
 
 -- The judgement of step i stands in the range a to b, with its predicate's number p.
 pub record Claimed (l : List ℕ) (p a b i : ℕ) : Type 0 where

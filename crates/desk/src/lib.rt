@@ -1,6 +1,5 @@
 // The step desk: whether bytes are a ledger, and whether each of its steps follows by its rule.
 mod claims;
-mod index;
 mod pass;
 
 pub use pass::step_desk;

@@ -1,22 +1,22 @@
 // The step desk: whether bytes are a ledger, and whether each of its steps follows.
 use crate::Verdict;
 use crate::claims;
-use crate::index;
 use ledger::Checked;
 use ledger::Cursor;
+use ledger::places;
 ghost use mathlib.Core.Path.{_≡_};
 ghost use lib.ListN.{length};
 ghost use Rattle.calculus.specs.Rules.{stepAt, Follows};
 ghost use Rattle.calculus.specs.Desk.{judged, deskAnswer};
 ghost use Rattle.calculus.proofs.Desk.{judge, desk};
 ghost use Rattle.ledger.specs.Ledger.{stepsOf, Led, Points};
+ghost use Rattle.ledger.specs.Noting.{Noted};
 ghost use Rattle.rules.specs.Standing.{Decides};
-ghost use Rattle.desk.specs.Walking.{Indexed};
 ghost use Rattle.desk.specs.Verdicts.{answerAs, Answers};
 
 // Whether the step follows from its references by the rule of its kind.
-fn follows_at(l: &[u8], index: &[usize; 10923], c: Cursor) -> bool
-    requires { ⌜ Points (now l) (c .step) (c .at) × Indexed (stepsOf (now l)) (c .step) (now index) ⌝ }
+fn follows_at(l: &[u8], noted: &[u32], c: Cursor) -> bool
+    requires { ⌜ Points (now l) (c .step) (c .at) × Noted (stepsOf (now l)) (c .step) (now noted) ⌝ }
     ensures { λ r. ⌜ Decides r (Follows (stepsOf (now (l .entry))) (c .step) (stepAt (stepsOf (now (l .entry))) (c .step))) ⌝ }
 {
     let mut preds: [usize; 4] = [0; 4];
@@ -24,7 +24,7 @@ fn follows_at(l: &[u8], index: &[usize; 10923], c: Cursor) -> bool
     let mut to: [usize; 4] = [0; 4];
     claims::claim_step(l, c, 0, &mut preds, &mut from, &mut to);
     let n = claims::reference_count(l, c);
-    claims::claim_references(l, index, c, n, &mut preds, &mut from, &mut to);
+    claims::claim_references(l, noted, c, n, &mut preds, &mut from, &mut to);
     rules::follows(l, c.kind(l), &preds, &from, &to, n)
 }
 
@@ -33,16 +33,16 @@ fn judge_steps(l: &[u8], n: usize) -> Verdict
     requires { ⌜ Led (now l) × (n ≡ length (stepsOf (now l))) ⌝ }
     ensures { λ r. ⌜ r ≡ answerAs (judged (desk (stepsOf (now (l .entry))))) ⌝ }
 {
-    let mut index: [usize; 10923] = [0; 10923];
+    let mut noted = [0u32; 10923];
     let mut step: usize = 0;
     let mut at: usize = 4;
     while step < n {
         let c = Cursor { step, at };
         let e = c.next(l);
-        if !follows_at(l, &index, c) {
+        if !follows_at(l, &noted, c) {
             return Verdict::Fails(step);
         }
-        index::note(&mut index, step, at);
+        places::note(&mut noted, step, at);
         step = e.step;
         at = e.at;
     }

@@ -1,3 +1,4 @@
 pub mod LedgerLaws
 pub mod PointLaws
 pub mod CheckLaws
+pub mod NotingLaws

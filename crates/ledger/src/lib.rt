@@ -1,5 +1,6 @@
 // A ledger's bytes, read: a length, records, zeros.
 mod check;
+pub mod places;
 mod steps;
 
 pub use check::operands;

@@ -1,6 +1,6 @@
-use borrow.Author.Needs.{needs}
 use Rattle.desk.proofs.pass.step_desk.Statement.{statement}
 use Rattle.desk.proofs.pass.step_desk.Tie as tie
+use borrow.Author.Needs.{needs}
 use native.Mathlib.Omega.{arith}
 use mathlib.Core.Path.{sym, _∙_}
 use Rattle.calculus.proofs.Fields.{below-each}
