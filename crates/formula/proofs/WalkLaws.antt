@@ -11,10 +11,11 @@ use lib.ListN.{length, getD, take, drop, length-append, length-drop, drop-of-len
 use lib.Seq.{drop-cons, take-at}
 use borrow.Author.Tests.{le-leb, leb-true, leb-false, eq-eqb, ne-eqb}
 use Rattle.formula.specs.Bytes.{Tree, dimWidth, dimAt, encode, Node, leaf, lit, one, two, bad, nodeOf, Got, nothing, got, then, takeDim, front, read, wholly, readAll, nodes, bound}
-use Rattle.formula.specs.Answers.{pick, stepBy, stepOf, measuredAs, measured, frontSize, measuredAt, bytesOf, partAt}
+use Rattle.formula.specs.Answers.{pick, stepBy, stepOf, kindOf, measuredAs, measured, frontSize, measuredAt, bytesOf, partAt}
 use Rattle.formula.specs.Walks.{counted, turnOf, readRow, overTree, passed, finish, walkedAt}
 use Rattle.formula.specs.declared.Sort.{Sort}
 use Rattle.formula.specs.declared.Size.{Size}
+use Rattle.formula.specs.declared.Kind.{Kind}
 use Rattle.formula.specs.declared.Measured.{Measured}
 use Rattle.formula.specs.declared.Measured.the-variants.{Formula, Ill}
 use Rattle.formula.specs.declared.Step.{Step}
@@ -24,10 +25,14 @@ use Rattle.formula.specs.declared.walk.Turn.{Turn}
 use Rattle.formula.specs.declared.walk.Turn.the-variants.{On, Broken}
 use Rattle.formula.proofs.Nodes.{Makes, made}
 use Rattle.formula.proofs.Reading.{nothing-got, encode-pos, read-cons, encode-read}
-use Rattle.formula.proofs.StepLaws.{step-few}
+use Rattle.formula.proofs.StepLaws.{stepKind, step-in, step-few}
 
 walk-eq : {a b p q n m x y : ℕ} → a ≡ b → p ≡ q → n ≡ m → x ≡ y → _≡_ {A = Walk} (record { at = a; pending = p; nodes = n; bound = x }) (record { at = b; pending = q; nodes = m; bound = y })
 walk-eq e f g h i = record { at = e i; pending = f i; nodes = g i; bound = h i }
+
+-- a turn that is counted, with its numbers as the code has them
+pub on-eq : {a b p q n x y : ℕ} → b ≡ a → q ≡ p → y ≡ x → On (record { at = a + 1; pending = p; nodes = n; bound = x }) ≡ On (record { at = b + 1; pending = q; nodes = n; bound = y })
+on-eq e f h = ap On (walk-eq (ap (λ (z : ℕ). z + 1) (sym e)) (sym f) refl (sym h))
 
 size-eq : {a b n m x y : ℕ} → a ≡ b → n ≡ m → x ≡ y → _≡_ {A = Size} (record { len = a; nodes = n; bound = x }) (record { len = b; nodes = m; bound = y })
 size-eq e f g i = record { len = e i; nodes = f i; bound = g i }
@@ -178,6 +183,36 @@ module _ (s : Sort) where
       go : Dec (w .pending ≤ length l - w .at) → finish s w (readRow s (w .pending) (drop (w .at) l)) ≡ after l (turnOf s l w)
       go (yes g) = turn-in l w (w .pending - 1) (omega arith) g
       go (no g) = turn-few l w h (omega arith)
+
+  -- a walk that started at a place: what is left to read ends where the whole does
+  pub record Walking (l : List ℕ) (start : ℕ) (w : Walk) : Type 0 where
+    pub ends : finish s w (readRow s (w .pending) (drop (w .at) l)) ≡ walkedAt s l start
+    pub inside : w .at ≤ length l
+    pub few : w .nodes ≤ w .at
+
+  pub walking-outside : (l : List ℕ) (start : ℕ) → length l ≤ start → Broken ≡ walkedAt s l start
+  unfolding walkedAt
+  walking-outside l start h = sym (ap (finish s (record { at = start; pending = 1; nodes = 0; bound = 0 })) (row-few 1 (drop start l) (omega (arith, length-drop start l))))
+
+  pub walking-start : (l : List ℕ) (start : ℕ) → start ≤ length l → Walking l start (record { at = start; pending = 1; nodes = 0; bound = 0 })
+  unfolding walkedAt
+  walking-start l start h = record { ends = refl; inside = h; few = omega arith }
+
+  module _ {l : List ℕ} {start : ℕ} {w : Walk} (g : Walking l start w) (h : 1 ≤ w .pending) where
+    -- too few bytes lead nowhere
+    pub walking-few : length l - w .at < w .pending → Broken ≡ walkedAt s l start
+    walking-few f = sym (ap (finish s w) (row-few (w .pending) (drop (w .at) l) (omega (arith, length-drop (w .at) l)))) ∙ g .ends
+
+    -- a turn by the kind of the node
+    module _ (i : w .pending ≤ length l - w .at) (k : Kind) (e : k ≡ kindOf s (getD l (w .at) 0)) where
+      turned : after l (counted w (stepKind k l (w .at) (w .pending))) ≡ walkedAt s l start
+      turned = sym (ap (λ (x : Step). after l (counted w x)) (step-in s l (w .at) (w .pending) h i k e)) ∙ sym (turn-law l w h) ∙ g .ends
+
+      pub walking-broken : counted w (stepKind k l (w .at) (w .pending)) ≡ Broken → Broken ≡ walkedAt s l start
+      walking-broken f = sym (ap (after l) f) ∙ turned
+
+      pub walking-on : (v : Walk) → counted w (stepKind k l (w .at) (w .pending)) ≡ On v → w .at < v .at → v .at ≤ length l → v .nodes ≡ w .nodes + 1 → Walking l start v
+      walking-on v f b c n = record { ends = sym (ap (after l) f) ∙ turned; inside = c; few = omega (arith, g .few) }
 
   pub finish-zero : (w : Walk) (l : List ℕ) → w .pending ≡ 0 → finish s w (readRow s (w .pending) l) ≡ On w
   unfolding readRow passed

@@ -1,14 +1,15 @@
 // One pass over a formula: its length, node count and bound, and its part of the slice.
+use crate::Kind;
 use crate::Measured;
-use crate::Place;
 use crate::Size;
 use crate::Sort;
-use crate::Step;
+use crate::node;
+use crate::node::DIM;
 ghost use mathlib.Core.Path.{_≡_};
 ghost use Prim.Native.Nat.{_≤_, max};
 ghost use lib.ListN.{length};
 ghost use Rattle.formula.specs.Answers.{keeps, measured, measuredAt, partAt};
-ghost use Rattle.formula.specs.Walks.{turnOf, walkedAt};
+ghost use Rattle.formula.specs.Walks.{walkedAt};
 
 // How far a walk has come, and what it has counted.
 struct Walk {
@@ -33,65 +34,44 @@ pub fn larger(a: usize, b: usize) -> usize
     a
 }
 
-// One node further, counted.
-fn advance(w: Walk, sort: Sort, s: &[u8]) -> Turn
-    requires { ⌜ w .nodes ≤ length (now s) ⌝ }
-    ensures { λ r. ⌜ r ≡ turnOf sort (now (s .entry)) w ⌝ }
-{
-    let p = Place {
-        at: w.at,
-        pending: w.pending,
-    };
-    match p.step(sort, s) {
-        Step::Leaf(q) => Turn::On(Walk {
-            at: q.at,
-            pending: q.pending,
-            nodes: w.nodes + 1,
-            bound: w.bound,
-        }),
-        Step::Lit(q, n) => Turn::On(Walk {
-            at: q.at,
-            pending: q.pending,
-            nodes: w.nodes + 1,
-            bound: larger(w.bound, n + 1),
-        }),
-        Step::One(q) => Turn::On(Walk {
-            at: q.at,
-            pending: q.pending,
-            nodes: w.nodes + 1,
-            bound: w.bound,
-        }),
-        Step::Two(q) => Turn::On(Walk {
-            at: q.at,
-            pending: q.pending,
-            nodes: w.nodes + 1,
-            bound: w.bound,
-        }),
-        Step::Stuck => Turn::Broken,
-    }
-}
-
-// The walk over the one formula that starts at `at`.
+// The walk over the one formula that starts at `at`. What it counts are numbers of their own, which stay out of memory.
 fn walk_from(sort: Sort, s: &[u8], at: usize) -> Turn
     ensures { λ r. ⌜ r ≡ walkedAt sort (now (s .entry)) at ⌝ }
 {
-    let mut w = Walk {
-        at,
-        pending: 1,
-        nodes: 0,
-        bound: 0,
-    };
-    loop {
-        let left = w.pending;
-        if left == 0 {
-            break;
-        }
-        let Turn::On(next) = advance(w, sort, s) else {
-            return Turn::Broken;
-        };
-        w = next;
+    if s.len() <= at {
+        return Turn::Broken;
     }
-    Turn::On(w)
+    let mut e = at;
+    let mut pending: usize = 1;
+    let mut nodes: usize = 0;
+    let mut bound: usize = 0;
+    while 0 < pending {
+        if s.len() - e < pending {
+            return Turn::Broken;
+        }
+        match node::kind_of(sort, s[e]) {
+            Kind::Nullary => pending -= 1,
+            Kind::Literal => {
+                if s.len() - (e + 1) < DIM {
+                    return Turn::Broken;
+                }
+                bound = larger(bound, node::dim_at(s, e + 1) + 1);
+                e += DIM;
+                pending -= 1;
+            }
+            Kind::Unary => {}
+            Kind::Binary => pending += 1,
+            Kind::Unknown => return Turn::Broken,
+        }
+        e += 1;
+        nodes += 1;
+    }
+    Turn::On(Walk {
+        at: e,
+        pending,
+        nodes,
+        bound,
+    })
 }
 
 // The size of the formula, exactly where the whole slice is one of the sort.

@@ -1,15 +1,15 @@
--- The tables of the code against the table of kinds: a table that lists a function's values is that function.
-use mathlib.Core.Path.{_≡_, refl, sym, ap, _∙_}
+-- The tables of the code against the table of kinds: a table that lists a function's values is that function, and so is a `match`.
+use mathlib.Core.Path.{_≡_, refl, sym, ap, ap₂, _∙_}
 use mathlib.Core.Bool.{Bool, true, false}
 use mathlib.Core.List.{List, [], _∷_, _++_}
-use Prim.Native.Nat.{ℕ, zero, suc, _+_, _-_, _≤_, _<_}
+use Prim.Native.Nat.{ℕ, zero, suc, _+_, _-_, _*_, _/_, _%_, _≤_, _<_}
 use native.Mathlib.Omega.{arith}
 use borrow.Author.Tests.{leb-true, leb-false}
 use lib.Dec.{leb}
 use lib.ListN.{length, getD, take, length-append, List·getD-eq-default, List·getD-append}
 use lib.Seq.{getD-append-add, take-nil}
 use Rattle.calculus.specs.Table.{Entry, unlisted, table, textBytes}
-use Rattle.kinds.specs.Kinds.{nameIn, nameBytes, namesOf, nameStart}
+use Rattle.kinds.specs.Kinds.{nameIn, nameBytes, namesOf, nameStart, fieldAt}
 
 -- The n values of a function from i on.
 abbrev pub valuesOf : {A : Type 0} → (ℕ → A) → ℕ → ℕ → List A
@@ -27,6 +27,25 @@ values-at f n k d h = let e : 0 + k ≡ k = omega arith in values-from f 0 n k d
 -- The same of rows, each of which lists a function's values.
 pub rows-at : {A : Type 0} (f : ℕ → ℕ → A) (m n p j : ℕ) (r : List A) (d : A) → p < m → j < n → getD (getD (valuesOf (λ p. valuesOf (f p) 0 n) 0 m) p r) j d ≡ f p j
 rows-at {A} f m n p j r d h i = ap (λ (x : List A). getD x j d) (values-at (λ p. valuesOf (f p) 0 n) m p r h) ∙ values-at (f p) n j d i
+
+-- None of the first k numbers; so, below suc k, k itself.
+abbrev pub Rest : ℕ → ℕ → Type 0
+Rest zero n = Unit {0}
+Rest (suc k) n = Rest k n × (n ≡ k → ⊥)
+
+rest-low : (k n : ℕ) → Rest k n → k ≤ n
+rest-low zero n r = omega arith
+rest-low (suc k) n r = let h : k ≤ n = rest-low k n (r .0) in let g : (n ≡ k → ⊥) = r .1 in omega arith
+
+pub rest-last : (k n : ℕ) → Rest k n → n < suc k → n ≡ k
+rest-last k n r h = omega (arith, rest-low k n r)
+
+-- The fields of the predicates, four to each.
+pub field-row : {i k : ℕ} → i ≡ k → fieldAt (k / 4) (k % 4) ≡ fieldAt (i / 4) (i % 4)
+field-row e = sym (ap (λ (n : ℕ). fieldAt (n / 4) (n % 4)) e)
+
+pub field-four : (p j : ℕ) → j < 4 → fieldAt ((4 * p + j) / 4) ((4 * p + j) % 4) ≡ fieldAt p j
+field-four p j h = let e : (4 * p + j) / 4 ≡ p = omega arith in let f : (4 * p + j) % 4 ≡ j = omega arith in ap₂ fieldAt e f
 
 -- Names ---------------------------------------------------------------------------------------
 

@@ -9,95 +9,12 @@ use crate::Field::Interval;
 use crate::Field::Nothing as __;
 use crate::Field::Number;
 ghost use mathlib.Core.Path.{_≡_};
-ghost use Prim.Native.Nat.{_+_, _≤_, _<_};
+ghost use Prim.Native.Nat.{_+_, _/_, _%_, _≤_, _<_};
 ghost use lib.ListN.{length, getD};
 ghost use lib.Seq.{sets};
 ghost use Rattle.formula.specs.Answers.{sameBytes};
 ghost use Rattle.calculus.specs.Table.{entryOf};
 ghost use Rattle.kinds.specs.Kinds.{entryAs, nameBytes, nameStart, rowOf, fieldAt};
-
-// The kinds from 0 on, which is none: where the name begins among the names, how many references a step has, and the number of its
-// predicate in document 01's order (lt 0, le 1, interval, face, member, take, cover, entails 7, boundary, local, fforall 10, ishift,
-// isubst, fshift, fsubst 14). Behind the last kind the names end.
-const KINDS: [u32; 77] = [
-    0_0_00,
-    0_0_00, // lt.z
-    4_1_00, // lt.s
-    8_0_01, // le.z
-    12_1_01, // le.s
-    16_0_02, // interval.0
-    26_0_02, // interval.1
-    36_1_02, // interval.dim
-    48_1_02, // interval.neg
-    60_2_02, // interval.meet
-    73_2_02, // interval.join
-    86_0_03, // face.ff
-    93_0_03, // face.ft
-    100_1_03, // face.0
-    106_1_03, // face.1
-    112_2_03, // face.and
-    120_2_03, // face.or
-    127_0_04, // member.here
-    138_1_04, // member.there
-    150_0_05, // take.here
-    159_1_05, // take.there
-    169_0_06, // cover.top
-    178_1_06, // cover.hit
-    187_1_06, // cover.absurd
-    199_2_06, // cover.clash
-    210_2_06, // cover.and-left
-    224_3_06, // cover.or-left
-    237_2_06, // cover.and-right
-    252_1_06, // cover.or-right0
-    267_1_06, // cover.or-right1
-    282_3_07, // entails.checked
-    297_0_08, // boundary.0
-    307_0_08, // boundary.1
-    317_0_08, // boundary.dim
-    329_1_08, // boundary.neg
-    341_2_08, // boundary.meet
-    354_2_08, // boundary.join
-    367_3_09, // local.0
-    374_3_09, // local.1
-    381_0_10, // fforall.ff
-    391_0_10, // fforall.ft
-    401_0_10, // fforall.0.hit
-    414_1_10, // fforall.0.lt
-    426_1_10, // fforall.0.gt
-    438_0_10, // fforall.1.hit
-    451_1_10, // fforall.1.lt
-    463_1_10, // fforall.1.gt
-    475_2_10, // fforall.and
-    486_2_10, // fforall.or
-    496_0_11, // ishift.0
-    504_0_11, // ishift.1
-    512_1_11, // ishift.dim.lt
-    525_1_11, // ishift.dim.ge
-    538_1_11, // ishift.neg
-    548_2_11, // ishift.meet
-    559_2_11, // ishift.join
-    570_0_12, // isubst.0
-    578_0_12, // isubst.1
-    586_1_12, // isubst.dim.lt
-    599_0_12, // isubst.dim.hit
-    613_1_12, // isubst.dim.gt
-    626_1_12, // isubst.neg
-    636_2_12, // isubst.meet
-    647_2_12, // isubst.join
-    658_0_13, // fshift.ff
-    667_0_13, // fshift.ft
-    676_1_13, // fshift.0
-    684_1_13, // fshift.1
-    692_2_13, // fshift.and
-    702_2_13, // fshift.or
-    711_0_14, // fsubst.ff
-    720_0_14, // fsubst.ft
-    729_2_14, // fsubst.0
-    737_2_14, // fsubst.1
-    745_2_14, // fsubst.and
-    755_2_14, // fsubst.or
-    764_0_00,
-];
 
 // The names, one after another.
 const NAMES: [u8; 764] = *b"\
@@ -177,37 +94,93 @@ const NAMES: [u8; 764] = *b"\
     fsubst.and\
     fsubst.or";
 
-// The fields of the predicates, in document 01's printed order.
-const FIELDS: [[Field; 4]; 15] = [
-    [Number, Number, __, __], // lt
-    [Number, Number, __, __], // le
-    [Number, Interval, __, __], // interval
-    [Number, Face, __, __], // face
-    [Face, Context, __, __], // member
-    [Context, Face, Context, __], // take
-    [Context, Face, __, __], // cover
-    [Number, Face, Face, __], // entails
-    [Interval, Face, Face, __], // boundary
-    [Number, Face, Interval, End], // local
-    [Face, Index, Face, __], // fforall
-    [Interval, Index, Interval, __], // ishift
-    [Interval, Index, Interval, Interval], // isubst
-    [Face, Index, Face, __], // fshift
-    [Face, Index, Interval, Face], // fsubst
-];
-
-// The row of a kind.
+// The kinds from 0 on, which is none: where the name begins among the names, how many references a step has, and the number of its
+// predicate in document 01's order (lt 0, le 1, interval, face, member, take, cover, entails 7, boundary, local, fforall 10, ishift,
+// isubst, fshift, fsubst 14). Behind the last kind the names end.
+// A `match` compiles to one load; a constant is copied where it is used.
 fn row_of(kind: usize) -> usize
     requires { ⌜ kind < 77 ⌝ }
     ensures { λ r. ⌜ r ≡ rowOf kind ⌝ }
 {
-    wide(KINDS[kind])
-}
-
-fn wide(n: u32) -> usize
-    ensures { λ r. ⌜ r ≡ n ⌝ }
-{
-    n as usize
+    match kind {
+        0 => 0_0_00,
+        1 => 0_0_00, // lt.z
+        2 => 4_1_00, // lt.s
+        3 => 8_0_01, // le.z
+        4 => 12_1_01, // le.s
+        5 => 16_0_02, // interval.0
+        6 => 26_0_02, // interval.1
+        7 => 36_1_02, // interval.dim
+        8 => 48_1_02, // interval.neg
+        9 => 60_2_02, // interval.meet
+        10 => 73_2_02, // interval.join
+        11 => 86_0_03, // face.ff
+        12 => 93_0_03, // face.ft
+        13 => 100_1_03, // face.0
+        14 => 106_1_03, // face.1
+        15 => 112_2_03, // face.and
+        16 => 120_2_03, // face.or
+        17 => 127_0_04, // member.here
+        18 => 138_1_04, // member.there
+        19 => 150_0_05, // take.here
+        20 => 159_1_05, // take.there
+        21 => 169_0_06, // cover.top
+        22 => 178_1_06, // cover.hit
+        23 => 187_1_06, // cover.absurd
+        24 => 199_2_06, // cover.clash
+        25 => 210_2_06, // cover.and-left
+        26 => 224_3_06, // cover.or-left
+        27 => 237_2_06, // cover.and-right
+        28 => 252_1_06, // cover.or-right0
+        29 => 267_1_06, // cover.or-right1
+        30 => 282_3_07, // entails.checked
+        31 => 297_0_08, // boundary.0
+        32 => 307_0_08, // boundary.1
+        33 => 317_0_08, // boundary.dim
+        34 => 329_1_08, // boundary.neg
+        35 => 341_2_08, // boundary.meet
+        36 => 354_2_08, // boundary.join
+        37 => 367_3_09, // local.0
+        38 => 374_3_09, // local.1
+        39 => 381_0_10, // fforall.ff
+        40 => 391_0_10, // fforall.ft
+        41 => 401_0_10, // fforall.0.hit
+        42 => 414_1_10, // fforall.0.lt
+        43 => 426_1_10, // fforall.0.gt
+        44 => 438_0_10, // fforall.1.hit
+        45 => 451_1_10, // fforall.1.lt
+        46 => 463_1_10, // fforall.1.gt
+        47 => 475_2_10, // fforall.and
+        48 => 486_2_10, // fforall.or
+        49 => 496_0_11, // ishift.0
+        50 => 504_0_11, // ishift.1
+        51 => 512_1_11, // ishift.dim.lt
+        52 => 525_1_11, // ishift.dim.ge
+        53 => 538_1_11, // ishift.neg
+        54 => 548_2_11, // ishift.meet
+        55 => 559_2_11, // ishift.join
+        56 => 570_0_12, // isubst.0
+        57 => 578_0_12, // isubst.1
+        58 => 586_1_12, // isubst.dim.lt
+        59 => 599_0_12, // isubst.dim.hit
+        60 => 613_1_12, // isubst.dim.gt
+        61 => 626_1_12, // isubst.neg
+        62 => 636_2_12, // isubst.meet
+        63 => 647_2_12, // isubst.join
+        64 => 658_0_13, // fshift.ff
+        65 => 667_0_13, // fshift.ft
+        66 => 676_1_13, // fshift.0
+        67 => 684_1_13, // fshift.1
+        68 => 692_2_13, // fshift.and
+        69 => 702_2_13, // fshift.or
+        70 => 711_0_14, // fsubst.ff
+        71 => 720_0_14, // fsubst.ft
+        72 => 729_2_14, // fsubst.0
+        73 => 737_2_14, // fsubst.1
+        74 => 745_2_14, // fsubst.and
+        75 => 755_2_14, // fsubst.or
+        _ => 764_0_00,
+    }
 }
 
 // The entry of a number.
@@ -224,13 +197,81 @@ pub fn entry_of(kind: usize) -> Entry
     Entry::Listed(row / 100 % 10, row % 100)
 }
 
+// The fields of the predicates, four to each, in document 01's printed order.
+fn field_in(i: usize) -> Field
+    requires { ⌜ i < 60 ⌝ }
+    ensures { λ r. ⌜ r ≡ fieldAt (i / 4) (i % 4) ⌝ }
+{
+    match i {
+        0 => Number, // lt
+        1 => Number,
+        2 => __,
+        3 => __,
+        4 => Number, // le
+        5 => Number,
+        6 => __,
+        7 => __,
+        8 => Number, // interval
+        9 => Interval,
+        10 => __,
+        11 => __,
+        12 => Number, // face
+        13 => Face,
+        14 => __,
+        15 => __,
+        16 => Face, // member
+        17 => Context,
+        18 => __,
+        19 => __,
+        20 => Context, // take
+        21 => Face,
+        22 => Context,
+        23 => __,
+        24 => Context, // cover
+        25 => Face,
+        26 => __,
+        27 => __,
+        28 => Number, // entails
+        29 => Face,
+        30 => Face,
+        31 => __,
+        32 => Interval, // boundary
+        33 => Face,
+        34 => Face,
+        35 => __,
+        36 => Number, // local
+        37 => Face,
+        38 => Interval,
+        39 => End,
+        40 => Face, // fforall
+        41 => Index,
+        42 => Face,
+        43 => __,
+        44 => Interval, // ishift
+        45 => Index,
+        46 => Interval,
+        47 => __,
+        48 => Interval, // isubst
+        49 => Index,
+        50 => Interval,
+        51 => Interval,
+        52 => Face, // fshift
+        53 => Index,
+        54 => Face,
+        55 => __,
+        56 => Face, // fsubst
+        57 => Index,
+        58 => Interval,
+        _ => Face,
+    }
+}
+
 // Field j of a predicate.
 pub fn field_of(predicate: usize, j: usize) -> Field
     requires { ⌜ (predicate < 15) × (j < 4) ⌝ }
     ensures { λ r. ⌜ r ≡ fieldAt predicate j ⌝ }
 {
-    let row = FIELDS[predicate];
-    row[j]
+    field_in(4 * predicate + j)
 }
 
 // Where the name of a kind begins among the names; behind the last is their length.

@@ -272,6 +272,21 @@ values-on p l j e h {f} i k =
     values-turn (fields (predicateOf p)) l j e h
     ∙ ap₂ (valueOn (fields (predicateOf p)) l) (sym (add-one j)) (ap (λ (x : Answered). fieldEnd x l e) (sym i) ∙ k)
 
+-- Where no field is answered none is left.
+none-left : (cs : List Field) (j : ℕ) → getD (map fieldAs cs) j Nothing ≡ Nothing → drop j cs ≡ []
+none-left [] j h = drop-nil j
+none-left (number ∷ cs) zero h = absurd (let z : _≡_ {A = ℕ} 0 1 = cc in omega arith)
+none-left (index ∷ cs) zero h = absurd (let z : _≡_ {A = ℕ} 0 1 = cc in omega arith)
+none-left (context ∷ cs) zero h = absurd (let z : _≡_ {A = ℕ} 0 1 = cc in omega arith)
+none-left (end ∷ cs) zero h = absurd (let z : _≡_ {A = ℕ} 0 1 = cc in omega arith)
+none-left (formula Faces ∷ cs) zero h = absurd (let z : _≡_ {A = ℕ} 0 1 = cc in omega arith)
+none-left (formula Intervals ∷ cs) zero h = absurd (let z : _≡_ {A = ℕ} 0 1 = cc in omega arith)
+none-left (c ∷ cs) (suc j) h = none-left cs j h
+
+pub values-done : (p : ℕ) (l : List ℕ) (j e : ℕ) → e ≤ length l → {f : Answered} → f ≡ fieldAt p j → f ≡ Nothing → valuesFrom (fields (predicateOf p)) l j e ≡ To e
+unfolding fieldAt valuesFrom readValues
+values-done p l j e h i k = ap (λ (z : List Field). ended l (readValues z (drop e l))) (none-left (fields (predicateOf p)) j (sym i ∙ k)) ∙ ended-drop (tt {0}) l e h
+
 -- No predicate has more than four fields.
 pub values-none : (p : ℕ) (l : List ℕ) (e : ℕ) → e ≤ length l → valuesFrom (fields (predicateOf p)) l 4 e ≡ To e
 unfolding valuesFrom readValues

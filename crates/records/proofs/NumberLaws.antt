@@ -6,6 +6,7 @@ use native.Mathlib.Numerals.{add-one, add-two}
 use mathlib.Core.Path.{_≡_, refl, sym, ap, ap₂, _∙_}
 use mathlib.Core.Bool.{Bool, _&&_, and-assoc}
 use mathlib.Core.List.{List, [], _∷_, _++_, append-assoc}
+use lib.Bits.{bitOr, or-zero-l, or-add-and, and-le-r}
 use lib.Dec.{eqb}
 use lib.ListN.{length, getD, take, drop, set, replicate, length-append, take-append-drop}
 use lib.Seq.{drop-cons, sets, sets-eq, take-at, take-add, drop-drop, drop-append-add, getD-drop}
@@ -39,6 +40,9 @@ little-two l at = rw add-one (omega arith)
 
 pub little-four : (l : List ℕ) (at : ℕ) → littleAt 2 l at + 65536 * littleAt 2 l (at + 2) ≡ littleAt 4 l at
 little-four l at = rw add-two (omega arith)
+
+pub little-eight : (l : List ℕ) (at : ℕ) → littleAt 4 l at + 4294967296 * littleAt 4 l (at + 4) ≡ littleAt 8 l at
+little-eight l at = let e : at + 4 ≡ suc (suc (suc (suc at))) = omega arith in rw e (omega arith)
 
 -- Runs of stores ---------------------------------------------------------------------------------
 
@@ -79,6 +83,13 @@ add-zeros : (a b : ℕ) → eqb (a + b) 0 ≡ (eqb a 0 && eqb b 0)
 add-zeros zero b = ap (λ (n : ℕ). eqb n 0) (zero-add b)
 add-zeros (suc a) b = ne-eqb (suc a + b) 0 (λ e. omega arith) ∙ ap (λ (t : Bool). t && eqb b 0) (sym (ne-eqb (suc a) 0 (λ e. omega arith)))
 
+-- Bits are zero exactly where both numbers' are.
+or-zeros : (a b : ℕ) → eqb (bitOr a b) 0 ≡ (eqb a 0 && eqb b 0)
+or-zeros zero b = ap (λ (n : ℕ). eqb n 0) (or-zero-l b)
+or-zeros (suc a) b =
+    ne-eqb (bitOr (suc a) b) 0 (λ e. omega (arith, or-add-and (suc a) b, and-le-r (suc a) b))
+    ∙ ap (λ (t : Bool). t && eqb b 0) (sym (ne-eqb (suc a) 0 (λ e. omega arith)))
+
 scale-zero : (b : ℕ) → eqb (256 * b) 0 ≡ eqb b 0
 scale-zero zero = refl
 scale-zero (suc b) = ne-eqb (256 * suc b) 0 (λ e. omega arith) ∙ sym (ne-eqb (suc b) 0 (λ e. omega arith))
@@ -104,15 +115,13 @@ part-step l i n =
     ∙ zeros-append (take n (drop i l)) (drop n (drop i l))
     ∙ ap (λ (y : List ℕ). allZero (take n (drop i l)) && allZero y) (drop-drop n i l)
 
--- One number more.
-more-zero : (l : List ℕ) (at n r x : ℕ) → at + n + 4 ≤ length l → eqb r 0 ≡ allZero (take n (drop at l)) → x ≡ littleAt 4 l (at + n) → eqb (r + x) 0 ≡ allZero (take (n + 4) (drop at l))
-more-zero l at n r x h e f =
-    add-zeros r x
-    ∙ ap₂ _&&_ e (ap (λ (k : ℕ). eqb k 0) f ∙ little-zero 4 l (at + n) h)
-    ∙ sym (ap allZero (take-add n 4 (drop at l) ∙ ap (λ (m : List ℕ). take n (drop at l) ++ take 4 m) (drop-drop n at l)) ∙ zeros-append (take n (drop at l)) (take 4 (drop (at + n) l)))
+-- Two parts side by side, and the bits of their numbers.
+pub both-zero : (l : List ℕ) (at n m x y : ℕ) → eqb x 0 ≡ allZero (take n (drop at l)) → eqb y 0 ≡ allZero (take m (drop (at + n) l)) → eqb (bitOr x y) 0 ≡ allZero (take (n + m) (drop at l))
+both-zero l at n m x y e f =
+    or-zeros x y
+    ∙ ap₂ _&&_ e f
+    ∙ sym (ap allZero (take-add n m (drop at l) ∙ ap (λ (k : List ℕ). take n (drop at l) ++ take m k) (drop-drop n at l)) ∙ zeros-append (take n (drop at l)) (take m (drop (at + n) l)))
 
-pub sixteen-zero : (l : List ℕ) (at a b c d : ℕ) → at + 16 ≤ length l → a ≡ littleAt 4 l at → b ≡ littleAt 4 l (at + 4) → c ≡ littleAt 4 l (at + 8) → d ≡ littleAt 4 l (at + 12)
-    → eqb (a + b + c + d) 0 ≡ allZero (take 16 (drop at l))
-sixteen-zero l at a b c d h p q r s =
-    let first = ap (λ (k : ℕ). eqb k 0) p ∙ little-zero 4 l at (omega arith) in
-    more-zero l at 12 (a + b + c) d (omega arith) (more-zero l at 8 (a + b) c (omega arith) (more-zero l at 4 a b (omega arith) first q) r) s
+-- The number of a part of eight bytes.
+pub eight-zero : (l : List ℕ) (at x : ℕ) → at + 8 ≤ length l → x ≡ littleAt 8 l at → eqb x 0 ≡ allZero (take 8 (drop at l))
+eight-zero l at x h e = ap (λ (k : ℕ). eqb k 0) e ∙ little-zero 8 l at h

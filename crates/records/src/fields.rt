@@ -134,7 +134,11 @@ pub(crate) fn values_end(s: &[u8], at: usize, predicate: usize) -> End
     let mut e = at;
     let mut j: usize = 0;
     while j < 4 {
-        let End::To(next) = field_end(kinds::field_of(predicate, j), s, e) else {
+        let f = kinds::field_of(predicate, j);
+        if let Field::Nothing = f {
+            return End::To(e);
+        }
+        let End::To(next) = field_end(f, s, e) else {
             return End::Ill;
         };
         e = next;

@@ -61,12 +61,28 @@ pub fn clear(s: &mut [u8], from: usize, to: usize)
     }
 }
 
-// The sum of the four numbers in the sixteen bytes at `at`: zero only where all bytes are.
-fn sixteen(s: &[u8], at: usize) -> usize
+// The number of eight bytes at `at`.
+fn get8(s: &[u8], at: usize) -> usize
+    requires { ⌜ at + 8 ≤ length (now s) ⌝ }
+    ensures { λ r. ⌜ r ≡ littleAt 8 (now (s .entry)) at ⌝ }
+{
+    get4(s, at) + 4294967296 * get4(s, at + 4)
+}
+
+// The bits of the two numbers in sixteen bytes at `at`: zero only where all bytes are.
+fn bits16(s: &[u8], at: usize) -> usize
     requires { ⌜ at + 16 ≤ length (now s) ⌝ }
     ensures { λ r. ⌜ eqb r 0 ≡ allZero (take 16 (drop at (now (s .entry)))) ⌝ }
 {
-    get4(s, at) + get4(s, at + 4) + get4(s, at + 8) + get4(s, at + 12)
+    get8(s, at) | get8(s, at + 8)
+}
+
+// The same of sixty-four bytes.
+fn bits64(s: &[u8], at: usize) -> usize
+    requires { ⌜ at + 64 ≤ length (now s) ⌝ }
+    ensures { λ r. ⌜ eqb r 0 ≡ allZero (take 64 (drop at (now (s .entry)))) ⌝ }
+{
+    bits16(s, at) | bits16(s, at + 16) | bits16(s, at + 32) | bits16(s, at + 48)
 }
 
 // Whether all bytes from `at` on are zeros, byte by byte.
@@ -84,17 +100,17 @@ fn tail_is_zero(s: &[u8], at: usize) -> bool
     true
 }
 
-// Whether all bytes from `at` on are zeros, sixteen a turn.
+// Whether all bytes from `at` on are zeros, sixty-four a turn.
 pub fn zeros_from(s: &[u8], at: usize) -> bool
     requires { ⌜ at ≤ length (now s) ⌝ }
     ensures { λ r. ⌜ r ≡ allZero (drop at (now (s .entry))) ⌝ }
 {
     let mut i = at;
-    while 16 <= s.len() - i {
-        if sixteen(s, i) != 0 {
+    while 64 <= s.len() - i {
+        if bits64(s, i) != 0 {
             return false;
         }
-        i += 16;
+        i += 64;
     }
     tail_is_zero(s, i)
 }

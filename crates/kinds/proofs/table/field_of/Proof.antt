@@ -1,21 +1,20 @@
 use borrow.Author.Needs.{needs}
+use mathlib.Core.Path.{_∙_}
+use Rattle.kinds.proofs.TableLaws.{field-four}
 use Rattle.kinds.proofs.table.field_of.Statement.{statement}
 use Rattle.kinds.proofs.table.field_of.Tie as tie
-use Rattle.kinds.specs.Kinds.{fieldAt}
-use Rattle.kinds.proofs.TableLaws.{rows-at}
 
-mul-row : tie.Need-mul-row
-mul-row c = search needs
+mul-field-in : tie.Need-mul-field-in
+mul-field-in c = search needs
 
-array-copy-out-row : tie.Need-array-copy-out-row
-array-copy-out-row c = search needs
+add-field-in : tie.Need-add-field-in
+add-field-in c = search needs
 
-array-copy-out-result : tie.Need-array-copy-out-result
-array-copy-out-result c = search needs
+field-in-requires : tie.Need-field-in-requires
+field-in-requires c κs = search needs
 
 returns : tie.Need-returns
-unfolding fieldAt
-returns c = rows-at fieldAt 15 4 (c .before .before .args .predicate) (c .before .before .args .j) _ _ (c .before .before .pre .0) (c .before .before .pre .1)
+returns c = let a = c .before .args in c .field-in .ensures ∙ field-four (a .predicate) (a .j) (c .before .pre .1)
 
 pub field-of-spec : {M : Type 1} → statement M
-field-of-spec = tie.close (tie.spec mul-row array-copy-out-row array-copy-out-result returns)
+field-of-spec = tie.close (tie.spec mul-field-in add-field-in field-in-requires returns)

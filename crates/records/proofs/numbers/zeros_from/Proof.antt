@@ -21,11 +21,11 @@ loop-holds c = (refl, c .before .pre)
 sub-loop : tie.Need-sub-loop Inv-loop μ-loop
 sub-loop c = omega arith
 
-sixteen-requires : tie.Need-sixteen-requires Inv-loop μ-loop
-sixteen-requires c κs = omega arith
+bits64-requires : tie.Need-bits64-requires Inv-loop μ-loop
+bits64-requires c κs = omega arith
 
 returns : tie.Need-returns Inv-loop μ-loop
-returns c = let s = c .before .before .before .before .before .args .s .now in let i = c .before .before .before .loop .i in sym (sym (c .before .before .before .loop .inv .0) ∙ part-step s i 16 ∙ ap (λ (t : Bool). t && allZero (drop (i + 16) s)) (sym (c .before .sixteen .ensures) ∙ ne-eqb _ _ (c .if1 .taken)))
+returns c = let s = c .before .before .before .before .before .args .s .now in let i = c .before .before .before .loop .i in sym (sym (c .before .before .before .loop .inv .0) ∙ part-step s i 64 ∙ ap (λ (t : Bool). t && allZero (drop (i + 64) s)) (sym (c .before .bits64 .ensures) ∙ ne-eqb _ _ (c .if1 .taken)))
 
 add-i : tie.Need-add-i Inv-loop μ-loop
 add-i c = omega arith
@@ -34,7 +34,7 @@ loop-less : tie.Need-loop-less Inv-loop μ-loop
 loop-less c = omega arith
 
 loop-again : tie.Need-loop-again Inv-loop μ-loop
-loop-again c = let s = c .before .before .before .before .before .args .s .now in let i = c .before .before .before .loop .i in (sym (part-step s i 16 ∙ ap (λ (t : Bool). t && allZero (drop (i + 16) s)) (sym (c .before .sixteen .ensures) ∙ eq-eqb _ _ (c .if1 .left))) ∙ c .before .before .before .loop .inv .0, omega arith)
+loop-again c = let s = c .before .before .before .before .before .args .s .now in let i = c .before .before .before .loop .i in (sym (part-step s i 64 ∙ ap (λ (t : Bool). t && allZero (drop (i + 64) s)) (sym (c .before .bits64 .ensures) ∙ eq-eqb _ _ (c .if1 .left))) ∙ c .before .before .before .loop .inv .0, omega arith)
 
 tail-is-zero-requires : tie.Need-tail-is-zero-requires Inv-loop μ-loop
 tail-is-zero-requires c κs = omega arith
@@ -50,7 +50,7 @@ zeros-from-spec =
     μ-loop
     loop-holds
     sub-loop
-    sixteen-requires
+    bits64-requires
     returns
     add-i
     loop-less
