@@ -11,12 +11,13 @@ ghost use Rattle.calculus.specs.Desk.{judged, deskAnswer};
 ghost use Rattle.calculus.proofs.Desk.{judge, desk};
 ghost use Rattle.ledger.specs.Ledger.{stepsOf, Led, Points};
 ghost use Rattle.ledger.specs.Noting.{Noted};
+ghost use Rattle.rows.specs.Flattening.{Tabled};
 ghost use Rattle.rules.specs.Standing.{Decides};
 ghost use Rattle.desk.specs.Verdicts.{answerAs, Answers};
 
 // Whether the step follows from its references by the rule of its kind.
-fn follows_at(l: &[u8], noted: &[u32], c: Cursor) -> bool
-    requires { ⌜ Points (now l) (c .step) (c .at) × Noted (stepsOf (now l)) (c .step) (now noted) ⌝ }
+fn follows_at(l: &[u8], table: &[u8; 1540], noted: &[u32], c: Cursor) -> bool
+    requires { ⌜ Points (now l) (c .step) (c .at) × Noted (stepsOf (now l)) (c .step) (now noted) × Tabled (now table) ⌝ }
     ensures { λ r. ⌜ Decides r (Follows (stepsOf (now (l .entry))) (c .step) (stepAt (stepsOf (now (l .entry))) (c .step))) ⌝ }
 {
     let mut preds: [usize; 4] = [0; 4];
@@ -25,7 +26,7 @@ fn follows_at(l: &[u8], noted: &[u32], c: Cursor) -> bool
     claims::claim_step(l, c, 0, &mut preds, &mut from, &mut to);
     let n = claims::reference_count(l, c);
     claims::claim_references(l, noted, c, n, &mut preds, &mut from, &mut to);
-    rules::follows(l, c.kind(l), &preds, &from, &to, n)
+    rules::follows(l, table, c.kind(l), &preds, &from, &to, n)
 }
 
 // The verdict on the n steps of a ledger.
@@ -33,13 +34,14 @@ fn judge_steps(l: &[u8], n: usize) -> Verdict
     requires { ⌜ Led (now l) × (n ≡ length (stepsOf (now l))) ⌝ }
     ensures { λ r. ⌜ r ≡ answerAs (judged (desk (stepsOf (now (l .entry))))) ⌝ }
 {
+    let table = rows::table();
     let mut noted = [0u32; 10923];
     let mut step: usize = 0;
     let mut at: usize = 4;
     while step < n {
         let c = Cursor { step, at };
         let e = c.next(l);
-        if !follows_at(l, &noted, c) {
+        if !follows_at(l, &table, &noted, c) {
             return Verdict::Fails(step);
         }
         places::note(&mut noted, step, at);

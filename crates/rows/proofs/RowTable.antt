@@ -6,12 +6,13 @@ use Prim.Native.Nat.{ℕ, zero, suc, _+_, _-_, _*_, _/_, _%_, _≤_, _<_}
 use native.Mathlib.Omega.{arith}
 use borrow.Author.Tests.{eqb-true}
 use lib.Dec.{eqb}
-use lib.ListN.{length, getD, List·getD-map, List·getD-append}
-use lib.Seq.{getD-append-add}
+use native.Mathlib.Decide.{ℕ-discrete}
+use lib.ListN.{length, getD, set, length-set, List·getD-map, List·getD-append}
+use lib.Seq.{getD-append-add, getD-set-same, getD-set-other}
 use Rattle.calculus.proofs.Rows.{rows}
 use Rattle.kinds.proofs.TableLaws.{valuesOf, values-at, rows-at}
 use Rattle.rows.specs.Items.{Item, item}
-use Rattle.rows.specs.Flattening.{flatF, flatI, fronts, flatFaces, itemsOf, byteOf, rowItems, rowStarts, rowLines, lineAt, Inside}
+use Rattle.rows.specs.Flattening.{flatF, flatI, fronts, flatFaces, itemsOf, byteOf, rowItems, rowStarts, rowLines, lineAt, Inside, Tabled}
 
 -- The rows of the calculus as bytes.
 unfoldable rowBytes : List ℕ
@@ -79,9 +80,29 @@ line-byte : (i : ℕ) → i < 1540 → getD (lineAt (i / 10)) (i % 10) 0 ≡ get
 unfolding lineAt
 line-byte i h = tens-at [] (rowLines rows) i lines-wide (omega (arith, lines-length)) ∙ ap (λ (l : List ℕ). getD l i 0) lines-bytes
 
--- A byte that is read off its line stands for its item.
-pub line-item : (b i : ℕ) (line : List ℕ) → i < 1540 → line ≡ lineAt (i / 10) → b ≡ getD line (i % 10) 0 → item b ≡ getD (rowItems rows) i (item 0)
-line-item b i line h e f = table-item b i (f ∙ ap (λ (l : List ℕ). getD l (i % 10) 0) e ∙ line-byte i h)
+-- A byte that is read off the table stands for its item.
+pub table-at : (t : List ℕ) → Tabled t → (b i : ℕ) → i < 1540 → b ≡ getD t i 0 → item b ≡ getD (rowItems rows) i (item 0)
+table-at t g b i h e = table-item b i (e ∙ g i h ∙ line-byte i h)
+
+-- The first n bytes of the table.
+pub record Filling (n : ℕ) (t : List ℕ) : Type 0 where
+  pub size : length t ≡ 1540
+  pub each : (i : ℕ) → i < n → getD t i 0 ≡ getD (lineAt (i / 10)) (i % 10) 0
+
+pub filling-none : (t : List ℕ) → length t ≡ 1540 → Filling 0 t
+filling-none t e = record { size = e; each = λ i h. absurd (omega arith) }
+
+-- A byte more.
+pub filling-more : {n : ℕ} {t : List ℕ} (line : List ℕ) → n < 1540 → line ≡ lineAt (n / 10) → Filling n t → Filling (n + 1) (set t n (getD line (n % 10) 0))
+filling-more {n} {t} line h e g = record { size = length-set t n (getD line (n % 10) 0) ∙ g .size; each = λ i b. go i b (ℕ-discrete i n) }
+  where
+    go : (i : ℕ) → i < n + 1 → Dec (i ≡ n) → getD (set t n (getD line (n % 10) 0)) i 0 ≡ getD (lineAt (i / 10)) (i % 10) 0
+    go i b (yes q) =
+        ap (λ (k : ℕ). getD (set t n (getD line (n % 10) 0)) k 0) q
+        ∙ getD-set-same t n (getD line (n % 10) 0) 0 (omega (arith, g .size))
+        ∙ ap (λ (l : List ℕ). getD l (n % 10) 0) e
+        ∙ ap (λ (k : ℕ). getD (lineAt (k / 10)) (k % 10) 0) (sym q)
+    go i b (no q) = getD-set-other t n i (getD line (n % 10) 0) 0 q ∙ g .each i (omega arith)
 
 -- The line of the byte behind is the same, unless a new one begins.
 pub inside-next : (line : List ℕ) (i : ℕ) → line ≡ lineAt (i / 10) → Inside line (i + 1)

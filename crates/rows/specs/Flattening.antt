@@ -2,7 +2,7 @@
 -- Here: the rows of the calculus as items.
 use mathlib.Core.Path.{_≡_}
 use mathlib.Core.List.{List, [], _∷_, _++_, map}
-use Prim.Native.Nat.{ℕ, suc, _+_, _-_, _*_, _/_, _%_}
+use Prim.Native.Nat.{ℕ, suc, _+_, _-_, _*_, _/_, _%_, _<_}
 use lib.ListN.{length, getD, replicate}
 use Rattle.formula.specs.Formula.{lo, hi, ff, i0}
 use Rattle.formula.specs.Bytes.{dimBytes}
@@ -128,6 +128,10 @@ rowLines (r ∷ rs) = map lineOf (conclusion r ∷ premises r) ++ rowLines rs
 -- Line i of the rules.
 unfoldable pub lineAt : ℕ → List ℕ
 lineAt i = getD (rowLines rows) i []
+
+-- The bytes of all lines, one after another.
+abbrev pub Tabled : List ℕ → Type 0
+Tabled t = (i : ℕ) → i < 1540 → getD t i 0 ≡ getD (lineAt (i / 10)) (i % 10) 0
 
 -- The line holds byte i of the rows, unless that begins a line.
 abbrev pub Inside : List ℕ → ℕ → Type 0

@@ -5,7 +5,7 @@ ghost use mathlib.Core.Path.{_≡_};
 ghost use Prim.Native.Nat.{_/_, _%_, _≤_, _<_};
 ghost use lib.ListN.{getD};
 ghost use Rattle.calculus.proofs.Rows.{rows};
-ghost use Rattle.rows.specs.Flattening.{lineAt, rowStarts, Inside};
+ghost use Rattle.rows.specs.Flattening.{lineAt, rowStarts, Inside, Tabled};
 
 // The predicates, each at the head of its judgement.
 const LT: u8 = 96;
@@ -405,7 +405,7 @@ fn line_of(i: usize) -> [u8; 10]
 }
 
 // The line in which byte i of the rows stands, by the line of the byte before it.
-pub fn next_line(line: [u8; 10], i: usize) -> [u8; 10]
+fn next_line(line: [u8; 10], i: usize) -> [u8; 10]
     requires { ⌜ (i < 1540) × Inside line i ⌝ }
     ensures { λ r. ⌜ r ≡ lineAt (i / 10) ⌝ }
 {
@@ -413,6 +413,21 @@ pub fn next_line(line: [u8; 10], i: usize) -> [u8; 10]
         return line_of(i / 10);
     }
     line
+}
+
+// All lines, one after another. The table is made once and lent; a constant would be copied for each byte that is read of it.
+pub fn table() -> [u8; 1540]
+    ensures { λ r. ⌜ Tabled r ⌝ }
+{
+    let mut table = [0u8; 1540];
+    let mut line = [81u8; 10];
+    let mut i: usize = 0;
+    while i < 1540 {
+        line = next_line(line, i);
+        table[i] = line[i % 10];
+        i += 1;
+    }
+    table
 }
 
 // Where the row of kind k + 1 starts.

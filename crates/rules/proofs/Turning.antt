@@ -17,6 +17,7 @@ use Rattle.rules.specs.declared.Turn.{Turn}
 use Rattle.rules.specs.declared.Turn.the-variants.{To, No}
 use Rattle.rules.specs.declared.tokens.Next.{Next}
 use Rattle.rules.specs.declared.tokens.Next.the-variants.{Move, Stop}
+use Rattle.rules.proofs.Moving.{as-pad, pad-yes}
 use Rattle.rules.proofs.Parts.{part-none, part-length, part-cons}
 
 claimed-number : {p q : ℕ} {x y : List ℕ} → claimed p x ≡ claimed q y → p ≡ q
@@ -96,6 +97,12 @@ module _ (l preds from to : List ℕ) (n : ℕ) where
         where
           told : Moves (token b) (q .at) (q .end) (q .left) l m (Move x y) m′
           told = subst (λ (z : Next). Moves (token b) (q .at) (q .end) (q .left) l m z m′) e w
+
+    -- Nothing is passed over.
+    pub turn-pad : {b : ℕ} → b ≡ 81 → (m : List ℕ) → Turns (item b) q l preds from to n m (To q) m
+    turn-pad {b} e m =
+        byte-move b m m (omega arith) (Move (q .at) (q .left)) (q .at) (q .left) refl
+        (as-pad b (q .at) (q .end) (q .left) l m (Move (q .at) (q .left)) m (omega arith) (pad-yes (q .at) (q .end) (q .left) l (v .ordered) (v .within) m))
 
 -- The loop ---------------------------------------------------------------------------------------------
 

@@ -4,12 +4,12 @@ mod slots;
 mod tokens;
 
 ghost use mathlib.Core.Path.{_≡_};
-ghost use Prim.Native.Nat.{_+_, _%_, _≤_};
+ghost use Prim.Native.Nat.{_+_, _≤_};
 ghost use Rattle.calculus.proofs.Rows.{rows};
 ghost use Rattle.rules.specs.Standing.{part, Lies, Decides, Ruled};
 ghost use Rattle.rows.specs.Items.{item, claim};
 ghost use Rattle.rules.specs.Matching.{claims, Matched, Some, Placed, Turns, Begins};
-ghost use Rattle.rows.specs.Flattening.{rowItems};
+ghost use Rattle.rows.specs.Flattening.{rowItems, Tabled};
 
 // Where the cursor stands: at `at` in the operands of a judgement that end at `end`; j judgements have begun, `left` faces of a context are to come.
 struct State {
@@ -94,6 +94,7 @@ fn one_byte(
 // Whether the n judgements at (preds, from, to), the conclusion first, are an instance of the row from `start` to `stop`.
 fn match_row(
     l: &[u8],
+    table: &[u8; 1540],
     start: usize,
     stop: usize,
     preds: &[usize; 4],
@@ -101,7 +102,7 @@ fn match_row(
     to: &[usize; 4],
     n: usize,
 ) -> bool
-    requires { ⌜ Lies (now l) (now from) (now to) n × (start ≤ stop) × (stop ≤ 1540) × (start % 10 ≡ 0) ⌝ }
+    requires { ⌜ Lies (now l) (now from) (now to) n × (start ≤ stop) × (stop ≤ 1540) × Tabled (now table) ⌝ }
     ensures { λ r. ⌜ Decides r (Matched (part (rowItems rows) start stop) (claims (now (l .entry)) (now (preds .entry)) (now (from .entry)) (now (to .entry)) n 0)) ⌝ }
 {
     let mut env: [usize; 64] = [0; 64];
@@ -111,11 +112,13 @@ fn match_row(
         left: 0,
         j: 0,
     };
-    let mut line = [81u8; 10];
     let mut i = start;
     while i < stop {
-        line = rows::next_line(line, i);
-        let b = rows::wide(line[i % 10]);
+        let b = rows::wide(table[i]);
+        if b == 81 {
+            i += 1;
+            continue;
+        }
         let Turn::To(p) = one_byte(l, &mut env, b, q, preds, from, to, n) else {
             return false;
         };
@@ -131,16 +134,17 @@ fn match_row(
     j == n
 }
 
-// Whether the judgement in the first range follows from those in the n others, in order, by the rule of the kind.
+// Whether the judgement in the first range follows from those in the n others, in order, by the rule of the kind. The table is that of rows.
 pub fn follows(
     l: &[u8],
+    table: &[u8; 1540],
     kind: usize,
     preds: &[usize; 4],
     from: &[usize; 4],
     to: &[usize; 4],
     n: usize,
 ) -> bool
-    requires { ⌜ Lies (now l) (now from) (now to) (n + 1) ⌝ }
+    requires { ⌜ Lies (now l) (now from) (now to) (n + 1) × Tabled (now table) ⌝ }
     ensures { λ r. ⌜ Ruled (now (l .entry)) kind (now (preds .entry)) (now (from .entry)) (now (to .entry)) n r ⌝ }
 {
     if kind == 0 {
@@ -151,5 +155,5 @@ pub fn follows(
     }
     let start = rows::row_start(kind - 1);
     let stop = rows::row_start(kind);
-    match_row(l, start, stop, preds, from, to, n + 1)
+    match_row(l, table, start, stop, preds, from, to, n + 1)
 }

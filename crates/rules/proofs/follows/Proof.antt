@@ -24,7 +24,7 @@ add-match-row : tie.Need-add-match-row
 add-match-row c = search needs
 
 match-row-requires : tie.Need-match-row-requires
-match-row-requires c κs = let w = kind-ranges (c .before .before .before .before .before .args .kind) (c .before .row-start .result) (c .row-start2 .result) (c .before .before .before .if1 .left) (omega (arith, c .before .before .if2 .left)) (c .before .row-start .ensures .0) (c .row-start2 .ensures .0) in (c .before .before .before .before .before .pre, w .0, w .1, c .before .row-start .ensures .1)
+match-row-requires c κs = let w = kind-ranges (c .before .before .before .before .before .args .kind) (c .before .row-start .result) (c .row-start2 .result) (c .before .before .before .if1 .left) (omega (arith, c .before .before .if2 .left)) (c .before .row-start .ensures .0) (c .row-start2 .ensures .0) in (c .before .before .before .before .before .pre .0, w .0, w .1, c .before .before .before .before .before .pre .1)
 
 returns-3 : tie.Need-returns-3
 returns-3 c = let a = c .before .before .before .before .before .before .args in kind-judged (a .kind) (c .before .before .row-start .result) (c .before .row-start2 .result) (c .before .before .before .before .if1 .left) (omega (arith, c .before .before .before .if2 .left)) (c .before .before .row-start .ensures .0) (c .before .row-start2 .ensures .0) (a .l .now) (a .preds .now) (a .from .now) (a .to .now) (a .n) (c .match-row .result) (c .match-row .ensures)

@@ -1,6 +1,6 @@
+use borrow.Author.Needs.{needs}
 use Rattle.desk.proofs.pass.follows_at.Statement.{statement}
 use Rattle.desk.proofs.pass.follows_at.Tie as tie
-use borrow.Author.Needs.{needs}
 use mathlib.Core.Path.{refl}
 use Rattle.ledger.specs.Ledger.{stepsOf}
 use Rattle.desk.specs.Walking.{cited}
@@ -19,7 +19,7 @@ kind-requires : tie.Need-kind-requires
 kind-requires c κs = search needs
 
 follows-requires : tie.Need-follows-requires
-follows-requires c κs = let l = c .before .before .before .before .before .before .before .before .before .before .before .before .before .before .before .args .l .now in claims-lie l _ _ _ (cited (stepsOf l) (c .before .before .before .before .before .before .before .before .before .before .before .before .before .before .before .args .c .step)) (c .before .before .before .before .before .before .before .before .reference-count .result) (c .before .before .before .before .before .before .before .before .reference-count .ensures .1) (c .before .before .before .before .claim-references .ensures)
+follows-requires c κs = let l = c .before .before .before .before .before .before .before .before .before .before .before .before .before .before .before .args .l .now in (claims-lie l _ _ _ (cited (stepsOf l) (c .before .before .before .before .before .before .before .before .before .before .before .before .before .before .before .args .c .step)) (c .before .before .before .before .before .before .before .before .reference-count .result) (c .before .before .before .before .before .before .before .before .reference-count .ensures .1) (c .before .before .before .before .claim-references .ensures), c .before .before .before .before .before .before .before .before .before .before .before .before .before .before .before .pre .2)
 
 returns : tie.Need-returns
 returns c = follows-decided (c .before .before .before .before .before .before .before .before .before .before .before .before .before .before .before .before .args .l .now) _ _ _ (c .before .before .before .before .before .before .before .before .before .before .before .before .before .before .before .before .pre .0) (c .before .before .before .before .before .before .before .before .before .reference-count .result) (c .before .before .before .before .before .before .before .before .before .reference-count .ensures .0) (c .before .before .before .before .before .claim-references .ensures) (c .before .before .before .before .kind .result) (c .before .before .before .before .kind .ensures) (c .follows .result) (c .follows .ensures)
