@@ -6,7 +6,7 @@ use crate::Sort;
 use crate::node;
 use crate::node::DIM;
 ghost use mathlib.Core.Path.{_≡_};
-ghost use Prim.Native.Nat.{_≤_, max};
+ghost use Prim.Native.Nat.{max};
 ghost use lib.ListN.{length};
 ghost use Rattle.formula.specs.Answers.{keeps, measured, measuredAt, partAt};
 ghost use Rattle.formula.specs.Walks.{walkedAt};

@@ -8,8 +8,12 @@ use lib.Dec.{ltb}
 use borrow.Author.Tests.{ltb-true}
 use lib.ListN.{length, getD, List·getD-eq-default, List·getD-map}
 use Rattle.calculus.specs.Table.{Pred, pLt, pLe, pInterval, pFace, pMember, pTake, pCover, pEntails, pBoundary, pLocal, pFforall, pIshift, pIsubst, pFshift, pFsubst, Entry, entry, unlisted, table, entryOf}
-use Rattle.kinds.specs.Kinds.{numberOf, predicateOf, entryAs, nameStart, countIn, numberIn, rowOf}
+use Rattle.formula.specs.declared.Sort.the-variants.{Faces, Intervals}
+use Rattle.calculus.specs.Record.{fields}
+use Rattle.calculus.specs.Record
+use Rattle.kinds.specs.Kinds.{numberOf, predicateOf, entryAs, nameStart, countIn, numberIn, rowOf, fieldAs, digitOf, fieldNumbered, packed, shapeIn, shapeOf}
 use Rattle.kinds.specs.declared.Entry.the-variants.{Listed, Unlisted}
+use Rattle.kinds.specs.declared.Field.the-variants.{Number, Index, Context, End, Face, Interval, Nothing}
 
 -- The numbers of the predicates.
 pub numbered : (p : Pred) → (predicateOf (numberOf p) ≡ p) × (numberOf p < 15)
@@ -81,7 +85,7 @@ unfolding allBelow table
 few-counts = refl
 
 -- A number's count and predicate are small, so that its row tells them.
-few-at : (k : ℕ) → countIn (entryOf k) < 4
+pub few-at : (k : ℕ) → countIn (entryOf k) < 4
 few-at zero = omega arith
 few-at (suc k) = omega (arith, List·getD-map countIn table k unlisted, below-at 4 (map countIn table) k (omega arith) few-counts)
 
@@ -118,3 +122,45 @@ listed-same e = (cc, cc)
 
 pub not-unlisted : {A : Type 0} {n p : ℕ} → Unlisted ≡ Listed n p → A
 not-unlisted e = absurd (let z : _≡_ {A = ℕ} 0 1 = cc in omega arith)
+
+-- Shapes ------------------------------------------------------------------------------------------
+
+-- A number above the kinds has none.
+pub shape-above : (k : ℕ) → 76 ≤ k → 0 ≡ shapeOf k
+unfolding shapeOf
+shape-above zero h = absurd (omega arith)
+shape-above (suc k) h = ap shapeIn (sym (List·getD-eq-default table unlisted {n = k} (omega (arith, table-length))))
+
+-- A field's number is a digit, and tells the field.
+pub digit : (c : Record.Field) → (1 ≤ digitOf c) × (digitOf c < 8) × (fieldNumbered (digitOf c) ≡ fieldAs c)
+digit Record.number = (omega arith, omega arith, refl)
+digit Record.index = (omega arith, omega arith, refl)
+digit Record.context = (omega arith, omega arith, refl)
+digit Record.end = (omega arith, omega arith, refl)
+digit (Record.formula Faces) = (omega arith, omega arith, refl)
+digit (Record.formula Intervals) = (omega arith, omega arith, refl)
+
+pub no-digit : (n : ℕ) → 7 ≤ n → Nothing ≡ fieldNumbered n
+no-digit n h = sym (List·getD-eq-default (Nothing ∷ Number ∷ Index ∷ Context ∷ End ∷ Face ∷ Interval ∷ []) Nothing {n = n} h)
+
+-- Every predicate has a field.
+packed-some : (cs : List Record.Field) (c : Record.Field) (p : Pred) → fields p ≡ c ∷ cs → 1 ≤ packed (fields p)
+unfolding packed
+packed-some cs c p e = rw e (omega (arith, digit c .0))
+
+pub packed-fields : (p : Pred) → 1 ≤ packed (fields p)
+packed-fields pLt = packed-some _ _ pLt refl
+packed-fields pLe = packed-some _ _ pLe refl
+packed-fields pInterval = packed-some _ _ pInterval refl
+packed-fields pFace = packed-some _ _ pFace refl
+packed-fields pMember = packed-some _ _ pMember refl
+packed-fields pTake = packed-some _ _ pTake refl
+packed-fields pCover = packed-some _ _ pCover refl
+packed-fields pEntails = packed-some _ _ pEntails refl
+packed-fields pBoundary = packed-some _ _ pBoundary refl
+packed-fields pLocal = packed-some _ _ pLocal refl
+packed-fields pFforall = packed-some _ _ pFforall refl
+packed-fields pIshift = packed-some _ _ pIshift refl
+packed-fields pIsubst = packed-some _ _ pIsubst refl
+packed-fields pFshift = packed-some _ _ pFshift refl
+packed-fields pFsubst = packed-some _ _ pFsubst refl

@@ -24,16 +24,12 @@ values-from f i (suc n) (suc k) d h = let e : suc i + k ≡ i + suc k = omega ar
 pub values-at : {A : Type 0} (f : ℕ → A) (n k : ℕ) (d : A) → k < n → getD (valuesOf f 0 n) k d ≡ f k
 values-at f n k d h = let e : 0 + k ≡ k = omega arith in values-from f 0 n k d h ∙ ap f e
 
--- The same of rows, each of which lists a function's values.
-pub rows-at : {A : Type 0} (f : ℕ → ℕ → A) (m n p j : ℕ) (r : List A) (d : A) → p < m → j < n → getD (getD (valuesOf (λ p. valuesOf (f p) 0 n) 0 m) p r) j d ≡ f p j
-rows-at {A} f m n p j r d h i = ap (λ (x : List A). getD x j d) (values-at (λ p. valuesOf (f p) 0 n) m p r h) ∙ values-at (f p) n j d i
-
 -- None of the first k numbers; so, below suc k, k itself.
 abbrev pub Rest : ℕ → ℕ → Type 0
 Rest zero n = Unit {0}
 Rest (suc k) n = Rest k n × (n ≡ k → ⊥)
 
-rest-low : (k n : ℕ) → Rest k n → k ≤ n
+pub rest-low : (k n : ℕ) → Rest k n → k ≤ n
 rest-low zero n r = omega arith
 rest-low (suc k) n r = let h : k ≤ n = rest-low k n (r .0) in let g : (n ≡ k → ⊥) = r .1 in omega arith
 

@@ -82,3 +82,30 @@ fieldAs (Record.formula Intervals) = Interval
 -- Field j of the predicate with this number.
 unfoldable pub fieldAt : ℕ → ℕ → Field
 fieldAt p j = getD (map fieldAs (fields (predicateOf p))) j Nothing
+
+-- The number of a field in a shape.
+abbrev pub digitOf : Record.Field → ℕ
+digitOf Record.number = 1
+digitOf Record.index = 2
+digitOf Record.context = 3
+digitOf Record.end = 4
+digitOf (Record.formula Faces) = 5
+digitOf (Record.formula Intervals) = 6
+
+-- The field with a number in a shape.
+abbrev pub fieldNumbered : ℕ → Field
+fieldNumbered n = getD (Nothing ∷ Number ∷ Index ∷ Context ∷ End ∷ Face ∷ Interval ∷ []) n Nothing
+
+-- Fields as one number, in eights, the first lowest.
+unfoldable pub packed : List Record.Field → ℕ
+packed [] = 0
+packed (c ∷ cs) = digitOf c + 8 * packed cs
+
+-- The shape in an entry: its reference count, and its fields above it.
+abbrev pub shapeIn : Entry → ℕ
+shapeIn (entry name n p) = n + 8 * packed (fields p)
+shapeIn unlisted = 0
+
+-- The shape of a kind.
+unfoldable pub shapeOf : ℕ → ℕ
+shapeOf k = shapeIn (entryOf k)

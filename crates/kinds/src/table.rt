@@ -14,7 +14,7 @@ ghost use lib.ListN.{length, getD};
 ghost use lib.Seq.{sets};
 ghost use Rattle.formula.specs.Answers.{sameBytes};
 ghost use Rattle.calculus.specs.Table.{entryOf};
-ghost use Rattle.kinds.specs.Kinds.{entryAs, nameBytes, nameStart, rowOf, fieldAt};
+ghost use Rattle.kinds.specs.Kinds.{entryAs, nameBytes, nameStart, rowOf, fieldAt, fieldNumbered, shapeOf};
 
 // The names, one after another.
 const NAMES: [u8; 764] = *b"\
@@ -263,6 +263,108 @@ fn field_in(i: usize) -> Field
         57 => Index,
         58 => Interval,
         _ => Face,
+    }
+}
+
+// The shape of a kind, in octal digits: the number of references last, before it the fields of the predicate, the first one last
+// (number 1, index 2, context 3, end 4, face 5, interval 6). 0 where the number is no kind.
+pub fn shape_of(kind: usize) -> usize
+    ensures { λ r. ⌜ r ≡ shapeOf kind ⌝ }
+{
+    match kind {
+        0 => 0,
+        1 => 0o11_0, // lt.z
+        2 => 0o11_1, // lt.s
+        3 => 0o11_0, // le.z
+        4 => 0o11_1, // le.s
+        5 => 0o61_0, // interval.0
+        6 => 0o61_0, // interval.1
+        7 => 0o61_1, // interval.dim
+        8 => 0o61_1, // interval.neg
+        9 => 0o61_2, // interval.meet
+        10 => 0o61_2, // interval.join
+        11 => 0o51_0, // face.ff
+        12 => 0o51_0, // face.ft
+        13 => 0o51_1, // face.0
+        14 => 0o51_1, // face.1
+        15 => 0o51_2, // face.and
+        16 => 0o51_2, // face.or
+        17 => 0o35_0, // member.here
+        18 => 0o35_1, // member.there
+        19 => 0o353_0, // take.here
+        20 => 0o353_1, // take.there
+        21 => 0o53_0, // cover.top
+        22 => 0o53_1, // cover.hit
+        23 => 0o53_1, // cover.absurd
+        24 => 0o53_2, // cover.clash
+        25 => 0o53_2, // cover.and-left
+        26 => 0o53_3, // cover.or-left
+        27 => 0o53_2, // cover.and-right
+        28 => 0o53_1, // cover.or-right0
+        29 => 0o53_1, // cover.or-right1
+        30 => 0o551_3, // entails.checked
+        31 => 0o556_0, // boundary.0
+        32 => 0o556_0, // boundary.1
+        33 => 0o556_0, // boundary.dim
+        34 => 0o556_1, // boundary.neg
+        35 => 0o556_2, // boundary.meet
+        36 => 0o556_2, // boundary.join
+        37 => 0o4651_3, // local.0
+        38 => 0o4651_3, // local.1
+        39 => 0o525_0, // fforall.ff
+        40 => 0o525_0, // fforall.ft
+        41 => 0o525_0, // fforall.0.hit
+        42 => 0o525_1, // fforall.0.lt
+        43 => 0o525_1, // fforall.0.gt
+        44 => 0o525_0, // fforall.1.hit
+        45 => 0o525_1, // fforall.1.lt
+        46 => 0o525_1, // fforall.1.gt
+        47 => 0o525_2, // fforall.and
+        48 => 0o525_2, // fforall.or
+        49 => 0o626_0, // ishift.0
+        50 => 0o626_0, // ishift.1
+        51 => 0o626_1, // ishift.dim.lt
+        52 => 0o626_1, // ishift.dim.ge
+        53 => 0o626_1, // ishift.neg
+        54 => 0o626_2, // ishift.meet
+        55 => 0o626_2, // ishift.join
+        56 => 0o6626_0, // isubst.0
+        57 => 0o6626_0, // isubst.1
+        58 => 0o6626_1, // isubst.dim.lt
+        59 => 0o6626_0, // isubst.dim.hit
+        60 => 0o6626_1, // isubst.dim.gt
+        61 => 0o6626_1, // isubst.neg
+        62 => 0o6626_2, // isubst.meet
+        63 => 0o6626_2, // isubst.join
+        64 => 0o525_0, // fshift.ff
+        65 => 0o525_0, // fshift.ft
+        66 => 0o525_1, // fshift.0
+        67 => 0o525_1, // fshift.1
+        68 => 0o525_2, // fshift.and
+        69 => 0o525_2, // fshift.or
+        70 => 0o5625_0, // fsubst.ff
+        71 => 0o5625_0, // fsubst.ft
+        72 => 0o5625_2, // fsubst.0
+        73 => 0o5625_2, // fsubst.1
+        74 => 0o5625_2, // fsubst.and
+        75 => 0o5625_2, // fsubst.or
+        _ => 0,
+    }
+}
+
+// The field with this number in a shape.
+pub fn field_numbered(digit: usize) -> Field
+    ensures { λ r. ⌜ r ≡ fieldNumbered digit ⌝ }
+{
+    match digit {
+        0 => __,
+        1 => Number,
+        2 => Index,
+        3 => Context,
+        4 => End,
+        5 => Face,
+        6 => Interval,
+        _ => __,
     }
 }
 

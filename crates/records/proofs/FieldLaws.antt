@@ -1,14 +1,14 @@
 -- Where fields, contexts, operands and references end, one turn of each loop at a time.
 use mathlib.Core.Path.{_≡_, refl, sym, ap, ap₂, _∙_}
 use mathlib.Core.Bool.{Bool, true, false, _&&_}
-use mathlib.Core.List.{List, [], _∷_, map}
-use Prim.Native.Nat.{ℕ, zero, suc, _+_, _-_, max, _≤_, _<_}
+use mathlib.Core.List.{List, [], _∷_}
+use Prim.Native.Nat.{ℕ, zero, suc, _/_, _%_, _+_, _-_, max, _≤_, _<_}
 use native.Mathlib.Omega.{arith}
 use native.Mathlib.Numerals.{add-one}
 use borrow.Author.Tests.{ne-eqb, lt-ltb, le-ltb}
 use lib.Dec.{leb, ltb, eqb, leb·suc-suc}
 use lib.ListN.{length, getD, drop, length-drop, drop-of-length-le}
-use lib.Seq.{drop-cons, drop-nil}
+use lib.Seq.{drop-cons}
 use Rattle.formula.specs.declared.Sort.{Sort}
 use Rattle.formula.specs.declared.Sort.the-variants.{Faces, Intervals}
 use Rattle.formula.specs.declared.Size.{Size}
@@ -18,7 +18,6 @@ use Rattle.formula.specs.Formula.{Face, Interval, i0, i1, dim, neg, meet, join}
 use Rattle.formula.specs.Bytes.{Tree, encode, encodeFace, leaf, lit, one, two, Got, nothing, got, then, takeDim, read, nodes, nodesFace, nodesInterval, boundFace, boundInterval, dimWidth, dimAt, maxNodes, maxBound}
 use Rattle.formula.specs.Answers.{pick, keeps, measuredAt}
 use Rattle.formula.proofs.Nodes.{made-as, tree-ind}
-use Rattle.calculus.specs.Table.{Pred, pLt, pLe, pInterval, pFace, pMember, pTake, pCover, pEntails, pBoundary, pLocal, pFforall, pIshift, pIsubst, pFshift, pFsubst}
 use Rattle.calculus.specs.Search.{nodesContext}
 use Rattle.calculus.specs.Record.{Field, number, index, context, end, formula, Value, boundContext, allowed, fields, Values}
 use Rattle.calculus.specs.Parse.{only, takeLittle, readFaces, readValues, readReferences}
@@ -27,8 +26,9 @@ use Rattle.kinds.specs.declared.Field.{Field as Answered}
 use Rattle.kinds.specs.declared.Field.the-variants.{Number, Index, Context, End, Face as OneFace, Interval as OneInterval, Nothing}
 use Rattle.records.specs.declared.fields.End.{End as Place}
 use Rattle.records.specs.declared.fields.End.the-variants.{To, Ill}
-use Rattle.kinds.specs.Kinds.{fieldAs, fieldAt, predicateOf}
-use Rattle.records.specs.Places.{littleAt, ended, readAllowed, endOf, fieldEnd, numberEnd, facesEnd}
+use Rattle.kinds.specs.Kinds.{fieldAs, digitOf, fieldNumbered, packed}
+use Rattle.kinds.proofs.KindLaws.{digit}
+use Rattle.records.specs.Places.{littleAt, ended, readAllowed, endOf, fieldEnd, numberEnd, facesEnd, valuesEnd}
 use Rattle.records.proofs.PlaceLaws.{little-at, little-short, tail-drop, Leaves, leaves-in, field-leaves, ended-drop, ended-fits, ended-map, by-size}
 
 -- The end of what is read at a place, provided that a test passes.
@@ -189,30 +189,10 @@ module _ (l : List ℕ) (at : ℕ) where
 
 -- Operands ----------------------------------------------------------------------------------------
 
-four-fields : (q : Pred) → length (fields q) ≤ 4
-four-fields pLt = omega arith
-four-fields pLe = omega arith
-four-fields pInterval = omega arith
-four-fields pFace = omega arith
-four-fields pMember = omega arith
-four-fields pTake = omega arith
-four-fields pCover = omega arith
-four-fields pEntails = omega arith
-four-fields pBoundary = omega arith
-four-fields pLocal = omega arith
-four-fields pFforall = omega arith
-four-fields pIshift = omega arith
-four-fields pIsubst = omega arith
-four-fields pFshift = omega arith
-four-fields pFsubst = omega arith
-
--- Where the fields from j on end.
-unfoldable pub valuesFrom : List Field → List ℕ → ℕ → ℕ → Place
-valuesFrom cs l j e = ended l (readValues (drop j cs) (drop e l))
-
-abbrev pub valueOn : List Field → List ℕ → ℕ → Place → Place
-valueOn cs l j Ill = Ill
-valueOn cs l j (To e) = valuesFrom cs l j e
+-- The fields behind one that ends at a place.
+abbrev pub valueOn : List Field → List ℕ → Place → Place
+valueOn cs l Ill = Ill
+valueOn cs l (To e) = valuesEnd cs l e
 
 field-as : (c : Field) (l : List ℕ) (e : ℕ) → fieldEnd (fieldAs c) l e ≡ endOf c l e
 field-as number l e = refl
@@ -242,55 +222,58 @@ field-fits Nothing l e h {r} i = let q : e ≡ r = cc in omega arith
 
 -- The first field and those behind it.
 value-first : (c : Field) (cs : List Field) (l : List ℕ) {g : Got (Value c)} → Leaves l g
-    → ended {A = Values (c ∷ cs)} l (then g (λ x m. only (allowed c x) (then (readValues cs m) (λ xs. got (x, xs))))) ≡ valueOn cs l 0 (ended l (then g (λ x m. only (allowed c x) (got x m))))
-unfolding valuesFrom
+    → ended {A = Values (c ∷ cs)} l (then g (λ x m. only (allowed c x) (then (readValues cs m) (λ xs. got (x, xs))))) ≡ valueOn cs l (ended l (then g (λ x m. only (allowed c x) (got x m))))
+unfolding valuesEnd
 value-first c cs l fails = refl
 value-first c cs l (reads {a = x} {m} t) = go (allowed c x)
   where
-    go : (b : Bool) → ended {A = Values (c ∷ cs)} l (only b (then (readValues cs m) (λ xs. got (x, xs)))) ≡ valueOn cs l 0 (ended l (only b (got x m)))
+    go : (b : Bool) → ended {A = Values (c ∷ cs)} l (only b (then (readValues cs m) (λ xs. got (x, xs)))) ≡ valueOn cs l (ended l (only b (got x m)))
     go true = ended-map {B = Values (c ∷ cs)} (λ (xs : Values cs). (x, xs)) l (readValues cs m) ∙ ap (λ (z : List ℕ). ended l (readValues cs z)) (t .same)
     go false = refl
 
-value-behind : (c : Field) (cs : List Field) (l : List ℕ) (j : ℕ) (p : Place) → valueOn cs l j p ≡ valueOn (c ∷ cs) l (suc j) p
-unfolding valuesFrom
-value-behind c cs l j Ill = refl
-value-behind c cs l j (To e) = refl
+values-turn : (c : Field) (cs : List Field) (l : List ℕ) (e : ℕ) → e ≤ length l → valuesEnd (c ∷ cs) l e ≡ valueOn cs l (fieldEnd (fieldAs c) l e)
+unfolding valuesEnd readValues endOf readAllowed
+values-turn c cs l e h = value-first c cs l (leaves-in (tail-drop l e h) (field-leaves c (drop e l))) ∙ ap (valueOn cs l) (sym (field-as c l e))
 
-pub values-turn : (cs : List Field) (l : List ℕ) (j e : ℕ) → e ≤ length l → valuesFrom cs l j e ≡ valueOn cs l (suc j) (fieldEnd (getD (map fieldAs cs) j Nothing) l e)
-unfolding valuesFrom readValues endOf readAllowed
-values-turn [] l j e h = ap (λ (z : List Field). ended l (readValues z (drop e l))) (drop-nil j)
-values-turn (c ∷ cs) l zero e h =
-    value-first c cs l (leaves-in (tail-drop l e h) (field-leaves c (drop e l)))
-    ∙ ap (valueOn cs l 0) (sym (field-as c l e))
-    ∙ value-behind c cs l 0 (fieldEnd (fieldAs c) l e)
-values-turn (c ∷ cs) l (suc j) e h = values-turn cs l j e h ∙ value-behind c cs l (suc j) (fieldEnd (getD (map fieldAs cs) j Nothing) l e)
+values-none : (l : List ℕ) (e : ℕ) → e ≤ length l → valuesEnd [] l e ≡ To e
+unfolding valuesEnd readValues
+values-none l e h = ended-drop (tt {0}) l e h
 
-pub values-on : (p : ℕ) (l : List ℕ) (j e : ℕ) → e ≤ length l → {f : Answered} → f ≡ fieldAt p j → {r : Place} → fieldEnd f l e ≡ r
-    → valuesFrom (fields (predicateOf p)) l j e ≡ valueOn (fields (predicateOf p)) l (j + 1) r
-unfolding fieldAt
-values-on p l j e h {f} i k =
-    values-turn (fields (predicateOf p)) l j e h
-    ∙ ap₂ (valueOn (fields (predicateOf p)) l) (sym (add-one j)) (ap (λ (x : Answered). fieldEnd x l e) (sym i) ∙ k)
+-- What is left of a shape tells fields that end where all of them do.
+pub record Left (l : List ℕ) (at shape e left : ℕ) : Type 0 where
+  pub each : (cs : List Field) → packed cs ≡ shape → (ds : List Field) × (packed ds ≡ left) × (valuesEnd ds l e ≡ valuesEnd cs l at)
+  pub inside : e ≤ length l
 
--- Where no field is answered none is left.
-none-left : (cs : List Field) (j : ℕ) → getD (map fieldAs cs) j Nothing ≡ Nothing → drop j cs ≡ []
-none-left [] j h = drop-nil j
-none-left (number ∷ cs) zero h = absurd (let z : _≡_ {A = ℕ} 0 1 = cc in omega arith)
-none-left (index ∷ cs) zero h = absurd (let z : _≡_ {A = ℕ} 0 1 = cc in omega arith)
-none-left (context ∷ cs) zero h = absurd (let z : _≡_ {A = ℕ} 0 1 = cc in omega arith)
-none-left (end ∷ cs) zero h = absurd (let z : _≡_ {A = ℕ} 0 1 = cc in omega arith)
-none-left (formula Faces ∷ cs) zero h = absurd (let z : _≡_ {A = ℕ} 0 1 = cc in omega arith)
-none-left (formula Intervals ∷ cs) zero h = absurd (let z : _≡_ {A = ℕ} 0 1 = cc in omega arith)
-none-left (c ∷ cs) (suc j) h = none-left cs j h
+pub left-start : (l : List ℕ) (at shape : ℕ) → at ≤ length l → Left l at shape at shape
+left-start l at shape h = record { each = λ cs p. (cs, p, refl); inside = h }
 
-pub values-done : (p : ℕ) (l : List ℕ) (j e : ℕ) → e ≤ length l → {f : Answered} → f ≡ fieldAt p j → f ≡ Nothing → valuesFrom (fields (predicateOf p)) l j e ≡ To e
-unfolding fieldAt valuesFrom readValues
-values-done p l j e h i k = ap (λ (z : List Field). ended l (readValues z (drop e l))) (none-left (fields (predicateOf p)) j (sym i ∙ k)) ∙ ended-drop (tt {0}) l e h
+module _ {l : List ℕ} {at shape e left : ℕ} (g : Left l at shape e left) where
+  turned : {f : Answered} {r : Place} → 0 < left → f ≡ fieldNumbered (left % 8) → fieldEnd f l e ≡ r
+      → (ds : List Field) → packed ds ≡ left → (cs : List Field) × (packed cs ≡ left / 8) × (valuesEnd ds l e ≡ valueOn cs l r)
+  unfolding packed
+  turned b i k [] p = absurd (omega arith)
+  turned {f} {r} b i k (c ∷ cs) p =
+      let d = digit c in
+      let m : left % 8 ≡ digitOf c = omega (arith, d .1) in
+      let n : f ≡ fieldAs c = i ∙ ap fieldNumbered m ∙ d .2 in
+      (cs, omega (arith, d .1), values-turn c cs l e (g .inside) ∙ ap (valueOn cs l) (ap (λ (x : Answered). fieldEnd x l e) (sym n) ∙ k))
 
--- No predicate has more than four fields.
-pub values-none : (p : ℕ) (l : List ℕ) (e : ℕ) → e ≤ length l → valuesFrom (fields (predicateOf p)) l 4 e ≡ To e
-unfolding valuesFrom readValues
-values-none p l e h = ap (λ (z : List Field). ended l (readValues z (drop e l))) (drop-of-length-le (fields (predicateOf p)) {i = 4} (four-fields (predicateOf p))) ∙ ended-drop (tt {0}) l e h
+  pub left-ill : {f : Answered} → 0 < left → f ≡ fieldNumbered (left % 8) → fieldEnd f l e ≡ Ill → (cs : List Field) → packed cs ≡ shape → Ill ≡ valuesEnd cs l at
+  left-ill b i k cs p = let x = g .each cs p in sym (turned b i k (x .0) (x .1) .2) ∙ x .2
+
+  pub left-on : {f : Answered} {r : ℕ} → 0 < left → f ≡ fieldNumbered (left % 8) → fieldEnd f l e ≡ To r → Left l at shape r (left / 8)
+  left-on {f} b i k = record {
+    each = λ cs p. let x = g .each cs p in let y = turned b i k (x .0) (x .1) in (y .0, y .1, sym (y .2) ∙ x .2);
+    inside = field-fits f l e (g .inside) k;
+  }
+
+  pub left-none : left ≡ 0 → (cs : List Field) → packed cs ≡ shape → To e ≡ valuesEnd cs l at
+  unfolding packed
+  left-none z cs p = let x = g .each cs p in go (x .0) (x .1) (x .2)
+    where
+      go : (ds : List Field) → packed ds ≡ left → valuesEnd ds l e ≡ valuesEnd cs l at → To e ≡ valuesEnd cs l at
+      go [] q h = sym (values-none l e (g .inside)) ∙ h
+      go (c ∷ ds) q h = absurd (omega (arith, digit c .0))
 
 -- References ----------------------------------------------------------------------------------------
 

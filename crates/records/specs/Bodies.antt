@@ -5,9 +5,8 @@ use mathlib.Core.List.{List}
 use Prim.Native.Nat.{ℕ}
 use lib.ListN.{drop}
 use Rattle.formula.specs.Bytes.{Got, then, wholly}
-use Rattle.calculus.specs.Record.{fields}
+use Rattle.calculus.specs.Record.{Field}
 use Rattle.calculus.specs.Parse.{readReferences, readValues}
-use Rattle.kinds.specs.Kinds.{predicateOf}
 
 -- Is there something?
 abbrev pub isSome : {A : Type 0} → Option A → Bool
@@ -18,6 +17,6 @@ isSome (some a) = true
 abbrev pub readable : {A : Type 0} → Got A → Bool
 readable g = isSome (wholly g)
 
--- For a private contract: references and operands behind the kind.
-unfoldable pub listedFits : ℕ → ℕ → ℕ → List ℕ → Bool
-listedFits i n p l = readable (then (readReferences i n (drop 2 l)) (λ is m. readValues (fields (predicateOf p)) m))
+-- For a private contract: n references and these fields behind the kind.
+unfoldable pub listedFits : ℕ → ℕ → List Field → List ℕ → Bool
+listedFits i n cs l = readable (then (readReferences i n (drop 2 l)) (λ is m. readValues cs m))

@@ -5,14 +5,13 @@ use lib.Dec.{leb}
 use lib.ListN.{length, getD, drop}
 use Rattle.formula.specs.declared.Sort.the-variants.{Faces, Intervals}
 use Rattle.formula.specs.Bytes.{Got, nothing, got, then, takeDim}
-use Rattle.calculus.specs.Record.{Value, allowed, fields}
+use Rattle.calculus.specs.Record.{Value, allowed}
 use Rattle.calculus.specs.Record
 use Rattle.calculus.specs.Parse.{only, readField, readFaces, readValues}
 use Rattle.kinds.specs.declared.Field.{Field}
 use Rattle.kinds.specs.declared.Field.the-variants.{Number, Index, Context, End, Face, Interval, Nothing}
 use Rattle.records.specs.declared.fields.End.{End as Place}
 use Rattle.records.specs.declared.fields.End.the-variants.{To, Ill}
-use Rattle.kinds.specs.Kinds.{predicateOf}
 
 -- The number of so many bytes at a place, the lowest first.
 abbrev pub littleAt : ℕ → List ℕ → ℕ → ℕ
@@ -50,6 +49,6 @@ numberEnd l at most = ended l (then (takeDim (drop at l)) (λ n m. only (leb n m
 unfoldable pub facesEnd : List ℕ → ℕ → ℕ → Place
 facesEnd l at n = ended l (then (readFaces n (drop at l)) (λ G m. only (allowed Record.context G) (got G m)))
 
--- Where the operands of a predicate end.
-unfoldable pub valuesEnd : ℕ → List ℕ → ℕ → Place
-valuesEnd p l at = ended l (readValues (fields (predicateOf p)) (drop at l))
+-- Where fields end that begin at a place.
+unfoldable pub valuesEnd : List Record.Field → List ℕ → ℕ → Place
+valuesEnd cs l at = ended l (readValues cs (drop at l))

@@ -2,20 +2,22 @@
 use crate::fields;
 use crate::fields::End;
 use crate::numbers;
-use kinds::Entry;
 ghost use mathlib.Core.Path.{_≡_};
-ghost use Prim.Native.Nat.{_≤_, _<_};
+ghost use mathlib.Core.List.{List};
+ghost use Prim.Native.Nat.{_≤_};
 ghost use lib.ListN.{length};
+ghost use Rattle.calculus.specs.Record.{Field};
 ghost use Rattle.calculus.specs.Parse.{readBody};
+ghost use Rattle.kinds.specs.Kinds.{packed};
 ghost use Rattle.records.specs.Bodies.{readable, listedFits};
 
-// The same for a kind with n references and this predicate.
-fn listed_fits(s: &[u8], i: usize, n: usize, predicate: usize) -> bool
-    requires { ⌜ (2 ≤ length (now s)) × (predicate < 15) ⌝ }
-    ensures { λ r. ⌜ r ≡ listedFits i n predicate (now (s .entry)) ⌝ }
+// The same for a kind with n references and fields of this shape.
+fn listed_fits(s: &[u8], i: usize, n: usize, shape: usize) -> bool
+    requires { ⌜ 2 ≤ length (now s) ⌝ }
+    ensures { λ r. ⌜ ((cs : List Field) → packed cs ≡ shape → r ≡ listedFits i n cs (now (s .entry))) ⌝ }
 {
     match fields::references_end(s, 2, n, i) {
-        End::To(at) => match fields::values_end(s, at, predicate) {
+        End::To(at) => match fields::values_end(s, at, shape) {
             End::To(e) => e == s.len(),
             End::Ill => false,
         },
@@ -30,8 +32,9 @@ pub fn body_fits(s: &[u8], i: usize) -> bool
     if s.len() < 2 {
         return false;
     }
-    match kinds::entry_of(numbers::get2(s, 0)) {
-        Entry::Listed(n, p) => listed_fits(s, i, n, p),
-        Entry::Unlisted => false,
+    let shape = kinds::shape_of(numbers::get2(s, 0));
+    if shape == 0 {
+        return false;
     }
+    listed_fits(s, i, shape % 8, shape / 8)
 }

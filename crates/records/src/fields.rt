@@ -5,9 +5,11 @@ use formula::Size;
 use formula::Sort;
 use kinds::Field;
 ghost use mathlib.Core.Path.{_≡_};
-ghost use Prim.Native.Nat.{_≤_, _<_};
+ghost use Prim.Native.Nat.{_≤_};
 ghost use lib.ListN.{length, drop};
-ghost use Rattle.calculus.specs.Record.{context, end, formula};
+ghost use mathlib.Core.List.{List};
+ghost use Rattle.calculus.specs.Record.{Field as Fields, context, end, formula};
+ghost use Rattle.kinds.specs.Kinds.{packed};
 ghost use Rattle.calculus.specs.Parse.{readReferences};
 ghost use Rattle.records.specs.Places.{ended, fieldEnd, endOf, numberEnd, facesEnd, valuesEnd};
 
@@ -126,23 +128,19 @@ fn field_end(f: Field, s: &[u8], at: usize) -> End
     }
 }
 
-// Behind the operands of a predicate from `at` on.
-pub(crate) fn values_end(s: &[u8], at: usize, predicate: usize) -> End
-    requires { ⌜ (at ≤ length (now s)) × (predicate < 15) ⌝ }
-    ensures { λ r. ⌜ r ≡ valuesEnd predicate (now (s .entry)) at ⌝ }
+// Behind the fields from `at` on that a shape tells, the first lowest.
+pub(crate) fn values_end(s: &[u8], at: usize, shape: usize) -> End
+    requires { ⌜ at ≤ length (now s) ⌝ }
+    ensures { λ r. ⌜ ((cs : List Fields) → packed cs ≡ shape → r ≡ valuesEnd cs (now (s .entry)) at) ⌝ }
 {
     let mut e = at;
-    let mut j: usize = 0;
-    while j < 4 {
-        let f = kinds::field_of(predicate, j);
-        if let Field::Nothing = f {
-            return End::To(e);
-        }
-        let End::To(next) = field_end(f, s, e) else {
+    let mut left = shape;
+    while 0 < left {
+        let End::To(next) = field_end(kinds::field_numbered(left % 8), s, e) else {
             return End::Ill;
         };
         e = next;
-        j += 1;
+        left /= 8;
     }
     End::To(e)
 }

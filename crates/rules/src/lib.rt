@@ -3,7 +3,6 @@ mod reach;
 mod slots;
 mod tokens;
 
-ghost use mathlib.Core.Path.{_≡_};
 ghost use Prim.Native.Nat.{_+_, _≤_};
 ghost use Rattle.calculus.proofs.Rows.{rows};
 ghost use Rattle.rules.specs.Standing.{part, Lies, Decides, Ruled};

@@ -1,4 +1,3 @@
-use borrow.Author.Needs.{needs}
 use Rattle.desk.proofs.claims.claim_references.Statement.{statement}
 use Rattle.desk.proofs.claims.claim_references.Tie as tie
 use native.Mathlib.Omega.{arith}

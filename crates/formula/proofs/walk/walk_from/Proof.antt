@@ -1,9 +1,9 @@
 use Rattle.formula.proofs.walk.walk_from.Statement.{statement}
 use Rattle.formula.proofs.walk.walk_from.Tie as tie
 use borrow.Author.Needs.{needs}
-use Prim.Native.Nat.{ℕ, _+_, _-_, _≤_, max}
+use Prim.Native.Nat.{ℕ, _+_, _-_, max}
 use native.Mathlib.Omega.{arith}
-use mathlib.Core.Path.{_≡_, refl, sym, ap, _∙_}
+use mathlib.Core.Path.{refl, sym, ap, _∙_}
 use mathlib.Core.Logic.{⊎-elim}
 use lib.ListN.{length, drop}
 use borrow.Author.Tests.{le-leb, lt-leb}
