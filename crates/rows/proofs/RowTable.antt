@@ -2,7 +2,7 @@
 use mathlib.Core.Path.{_≡_, refl, sym, ap, _∙_}
 use mathlib.Core.Bool.{Bool, true, _&&_, and-eq-true-iff}
 use mathlib.Core.List.{List, [], _∷_, _++_, map}
-use Prim.Native.Nat.{ℕ, zero, suc, _+_, _-_, _*_, _/_, _%_, _≤_, _<_}
+use Prim.Native.Nat.{ℕ, zero, suc, _+_, _-_, _*_, _/_, _%_, _<_}
 use native.Mathlib.Omega.{arith}
 use borrow.Author.Tests.{eqb-true}
 use lib.Dec.{eqb}
@@ -10,7 +10,6 @@ use native.Mathlib.Decide.{ℕ-discrete}
 use lib.ListN.{length, getD, set, length-set, List·getD-map, List·getD-append}
 use lib.Seq.{getD-append-add, getD-set-same, getD-set-other}
 use Rattle.calculus.proofs.Rows.{rows}
-use Rattle.kinds.proofs.TableLaws.{valuesOf, values-at}
 use Rattle.rows.specs.Items.{Item, item}
 use Rattle.rows.specs.Flattening.{flatF, flatI, fronts, flatFaces, itemsOf, byteOf, rowItems, rowStarts, rowLines, lineAt, Inside, Tabled}
 
@@ -54,10 +53,6 @@ module _ (n : ℕ) (e : List ℕ) where
       let k = eqb-true (length r) n (v .0) in
       let z : suc a * n + b ≡ length r + (a * n + b) = omega arith in
       joined-at t a b (v .1) (omega arith) i ∙ sym (ap (λ (k : ℕ). getD (r ++ joined t) k 0) z ∙ getD-append-add r (joined t) (a * n + b) 0)
-
--- A table that lists the lines from b on.
-pub lines-at : (b n i : ℕ) (e : List ℕ) → b ≤ i → i < b + n → getD (valuesOf (λ j. lineAt (b + j)) 0 n) (i - b) e ≡ lineAt i
-lines-at b n i e h k = let z : b + (i - b) ≡ i = omega arith in values-at (λ j. lineAt (b + j)) n (i - b) e (omega arith) ∙ ap lineAt z
 
 -- Numbers with ten to a line.
 tens-at : (e : List ℕ) (t : List (List ℕ)) (i : ℕ) → allWide 10 t ≡ true → i / 10 < length t → getD (getD t (i / 10) e) (i % 10) 0 ≡ getD (joined t) i 0

@@ -1,8 +1,7 @@
 // The rules of the calculus, a judgement to a line: the conclusion of each rule, then its premises in order. A judgement is its
-// predicate and its operands as document 01 prints them; a line has ten tokens. One constant for each group of predicates: the
-// compiler copies a constant where it is used, and the checker takes long over large ones.
+// predicate and its operands as document 01 prints them; a line has ten tokens.
 ghost use mathlib.Core.Path.{_≡_};
-ghost use Prim.Native.Nat.{_/_, _%_, _≤_, _<_};
+ghost use Prim.Native.Nat.{_/_, _%_, _<_};
 ghost use lib.ListN.{getD};
 ghost use Rattle.calculus.proofs.Rows.{rows};
 ghost use Rattle.rows.specs.Flattening.{lineAt, rowStarts, Inside, Tabled};
@@ -121,275 +120,175 @@ const NIL: u8 = 80;
 // Nothing: behind the last operand.
 const __: u8 = 81;
 
-// lt and le.
-const ORDER: [[u8; 10]; 6] = [
-    [LT, 0, S0, __, __, __, __, __, __, __], // lt.z
-    [LT, S0, S1, __, __, __, __, __, __, __], // lt.s
-    [LT, N0, N1, __, __, __, __, __, __, __],
-    [LE, 0, N0, __, __, __, __, __, __, __], // le.z
-    [LE, S0, S1, __, __, __, __, __, __, __], // le.s
-    [LE, N0, N1, __, __, __, __, __, __, __],
-];
-
-// interval and face.
-const BOUNDS: [[u8; 10]; 24] = [
-    [INTERVAL, N0, I0, __, __, __, __, __, __, __], // interval.0
-    [INTERVAL, N0, I1, __, __, __, __, __, __, __], // interval.1
-    [INTERVAL, N0, DIM, N1, __, __, __, __, __, __], // interval.dim
-    [LT, N1, N0, __, __, __, __, __, __, __],
-    [INTERVAL, N0, NEG, R1, __, __, __, __, __, __], // interval.neg
-    [INTERVAL, N0, R1, __, __, __, __, __, __, __],
-    [INTERVAL, N0, MEET, R1, R2, __, __, __, __, __], // interval.meet
-    [INTERVAL, N0, R1, __, __, __, __, __, __, __],
-    [INTERVAL, N0, R2, __, __, __, __, __, __, __],
-    [INTERVAL, N0, JOIN, R1, R2, __, __, __, __, __], // interval.join
-    [INTERVAL, N0, R1, __, __, __, __, __, __, __],
-    [INTERVAL, N0, R2, __, __, __, __, __, __, __],
-    [FACE, N0, FF, __, __, __, __, __, __, __], // face.ff
-    [FACE, N0, FT, __, __, __, __, __, __, __], // face.ft
-    [FACE, N0, AT0, N1, __, __, __, __, __, __], // face.0
-    [INTERVAL, N0, DIM, N1, __, __, __, __, __, __],
-    [FACE, N0, AT1, N1, __, __, __, __, __, __], // face.1
-    [INTERVAL, N0, DIM, N1, __, __, __, __, __, __],
-    [FACE, N0, FAND, F1, F2, __, __, __, __, __], // face.and
-    [FACE, N0, F1, __, __, __, __, __, __, __],
-    [FACE, N0, F2, __, __, __, __, __, __, __],
-    [FACE, N0, FOR, F1, F2, __, __, __, __, __], // face.or
-    [FACE, N0, F1, __, __, __, __, __, __, __],
-    [FACE, N0, F2, __, __, __, __, __, __, __],
-];
-
-// member and take.
-const CONTEXTS: [[u8; 10]; 6] = [
-    [MEMBER, F0, IN1, F0, G1, __, __, __, __, __], // member.here
-    [MEMBER, F0, IN1, F1, G2, __, __, __, __, __], // member.there
-    [MEMBER, F0, IN0, G2, __, __, __, __, __, __],
-    [TAKE, IN1, F0, G1, F0, IN0, G1, __, __, __], // take.here
-    [TAKE, IN1, F0, G1, F2, IN1, F0, G3, __, __], // take.there
-    [TAKE, IN0, G1, F2, IN0, G3, __, __, __, __],
-];
-
-// cover.
-const COVERS: [[u8; 10]; 22] = [
-    [COVER, IN0, G0, FT, __, __, __, __, __, __], // cover.top
-    [COVER, IN0, G0, F1, __, __, __, __, __, __], // cover.hit
-    [MEMBER, F1, IN0, G0, __, __, __, __, __, __],
-    [COVER, IN0, G0, F1, __, __, __, __, __, __], // cover.absurd
-    [MEMBER, FF, IN0, G0, __, __, __, __, __, __],
-    [COVER, IN0, G0, F1, __, __, __, __, __, __], // cover.clash
-    [MEMBER, AT0, N2, IN0, G0, __, __, __, __, __],
-    [MEMBER, AT1, N2, IN0, G0, __, __, __, __, __],
-    [COVER, IN0, G0, F1, __, __, __, __, __, __], // cover.and-left
-    [TAKE, IN0, G0, FAND, F2, F3, IN0, G4, __, __],
-    [COVER, IN2, F2, F3, G4, F1, __, __, __, __],
-    [COVER, IN0, G0, F1, __, __, __, __, __, __], // cover.or-left
-    [TAKE, IN0, G0, FOR, F2, F3, IN0, G4, __, __],
-    [COVER, IN1, F2, G4, F1, __, __, __, __, __],
-    [COVER, IN1, F3, G4, F1, __, __, __, __, __],
-    [COVER, IN0, G0, FAND, F1, F2, __, __, __, __], // cover.and-right
-    [COVER, IN0, G0, F1, __, __, __, __, __, __],
-    [COVER, IN0, G0, F2, __, __, __, __, __, __],
-    [COVER, IN0, G0, FOR, F1, F2, __, __, __, __], // cover.or-right0
-    [COVER, IN0, G0, F1, __, __, __, __, __, __],
-    [COVER, IN0, G0, FOR, F1, F2, __, __, __, __], // cover.or-right1
-    [COVER, IN0, G0, F2, __, __, __, __, __, __],
-];
-
-// entails, boundary and local.
-const ENDS: [[u8; 10]; 23] = [
-    [ENTAILS, N0, F1, F2, __, __, __, __, __, __], // entails.checked
-    [FACE, N0, F1, __, __, __, __, __, __, __],
-    [FACE, N0, F2, __, __, __, __, __, __, __],
-    [COVER, IN1, F1, NIL, F2, __, __, __, __, __],
-    [BOUNDARY, I0, FT, FF, __, __, __, __, __, __], // boundary.0
-    [BOUNDARY, I1, FF, FT, __, __, __, __, __, __], // boundary.1
-    [BOUNDARY, DIM, N0, AT0, N0, AT1, N0, __, __, __], // boundary.dim
-    [BOUNDARY, NEG, R0, F1, F2, __, __, __, __, __], // boundary.neg
-    [BOUNDARY, R0, F2, F1, __, __, __, __, __, __],
-    [BOUNDARY, MEET, R0, R1, FOR, F2, F3, FAND, F4, F5], // boundary.meet
-    [BOUNDARY, R0, F2, F4, __, __, __, __, __, __],
-    [BOUNDARY, R1, F3, F5, __, __, __, __, __, __],
-    [BOUNDARY, JOIN, R0, R1, FAND, F2, F3, FOR, F4, F5], // boundary.join
-    [BOUNDARY, R0, F2, F4, __, __, __, __, __, __],
-    [BOUNDARY, R1, F3, F5, __, __, __, __, __, __],
-    [LOCAL, N0, F1, R2, I0, __, __, __, __, __], // local.0
-    [INTERVAL, N0, R2, __, __, __, __, __, __, __],
-    [BOUNDARY, R2, F3, F4, __, __, __, __, __, __],
-    [ENTAILS, N0, F1, F3, __, __, __, __, __, __],
-    [LOCAL, N0, F1, R2, I1, __, __, __, __, __], // local.1
-    [INTERVAL, N0, R2, __, __, __, __, __, __, __],
-    [BOUNDARY, R2, F3, F4, __, __, __, __, __, __],
-    [ENTAILS, N0, F1, F4, __, __, __, __, __, __],
-];
-
-// fforall.
-const FORALLS: [[u8; 10]; 18] = [
-    [FFORALL, FF, N0, FF, __, __, __, __, __, __], // fforall.ff
-    [FFORALL, FT, N0, FT, __, __, __, __, __, __], // fforall.ft
-    [FFORALL, AT0, N0, N0, FF, __, __, __, __, __], // fforall.0.hit
-    [FFORALL, AT0, N0, N1, AT0, N0, __, __, __, __], // fforall.0.lt
-    [LT, N0, N1, __, __, __, __, __, __, __],
-    [FFORALL, AT0, S0, N1, AT0, N0, __, __, __, __], // fforall.0.gt
-    [LT, N1, S0, __, __, __, __, __, __, __],
-    [FFORALL, AT1, N0, N0, FF, __, __, __, __, __], // fforall.1.hit
-    [FFORALL, AT1, N0, N1, AT1, N0, __, __, __, __], // fforall.1.lt
-    [LT, N0, N1, __, __, __, __, __, __, __],
-    [FFORALL, AT1, S0, N1, AT1, N0, __, __, __, __], // fforall.1.gt
-    [LT, N1, S0, __, __, __, __, __, __, __],
-    [FFORALL, FAND, F0, F1, N2, FAND, F3, F4, __, __], // fforall.and
-    [FFORALL, F0, N2, F3, __, __, __, __, __, __],
-    [FFORALL, F1, N2, F4, __, __, __, __, __, __],
-    [FFORALL, FOR, F0, F1, N2, FOR, F3, F4, __, __], // fforall.or
-    [FFORALL, F0, N2, F3, __, __, __, __, __, __],
-    [FFORALL, F1, N2, F4, __, __, __, __, __, __],
-];
-
-// ishift and isubst.
-const INTERVAL_TRANSFORMS: [[u8; 10]; 29] = [
-    [ISHIFT, I0, N0, I0, __, __, __, __, __, __], // ishift.0
-    [ISHIFT, I1, N0, I1, __, __, __, __, __, __], // ishift.1
-    [ISHIFT, DIM, N0, N1, DIM, N0, __, __, __, __], // ishift.dim.lt
-    [LT, N0, N1, __, __, __, __, __, __, __],
-    [ISHIFT, DIM, N0, N1, DIM, S0, __, __, __, __], // ishift.dim.ge
-    [LE, N1, N0, __, __, __, __, __, __, __],
-    [ISHIFT, NEG, R0, N1, NEG, R2, __, __, __, __], // ishift.neg
-    [ISHIFT, R0, N1, R2, __, __, __, __, __, __],
-    [ISHIFT, MEET, R0, R1, N2, MEET, R3, R4, __, __], // ishift.meet
-    [ISHIFT, R0, N2, R3, __, __, __, __, __, __],
-    [ISHIFT, R1, N2, R4, __, __, __, __, __, __],
-    [ISHIFT, JOIN, R0, R1, N2, JOIN, R3, R4, __, __], // ishift.join
-    [ISHIFT, R0, N2, R3, __, __, __, __, __, __],
-    [ISHIFT, R1, N2, R4, __, __, __, __, __, __],
-    [ISUBST, I0, N0, R1, I0, __, __, __, __, __], // isubst.0
-    [ISUBST, I1, N0, R1, I1, __, __, __, __, __], // isubst.1
-    [ISUBST, DIM, N0, N1, R2, DIM, N0, __, __, __], // isubst.dim.lt
-    [LT, N0, N1, __, __, __, __, __, __, __],
-    [ISUBST, DIM, N0, N0, R1, R1, __, __, __, __], // isubst.dim.hit
-    [ISUBST, DIM, S0, N1, R2, DIM, N0, __, __, __], // isubst.dim.gt
-    [LT, N1, S0, __, __, __, __, __, __, __],
-    [ISUBST, NEG, R0, N1, R2, NEG, R3, __, __, __], // isubst.neg
-    [ISUBST, R0, N1, R2, R3, __, __, __, __, __],
-    [ISUBST, MEET, R0, R1, N2, R3, MEET, R4, R5, __], // isubst.meet
-    [ISUBST, R0, N2, R3, R4, __, __, __, __, __],
-    [ISUBST, R1, N2, R3, R5, __, __, __, __, __],
-    [ISUBST, JOIN, R0, R1, N2, R3, JOIN, R4, R5, __], // isubst.join
-    [ISUBST, R0, N2, R3, R4, __, __, __, __, __],
-    [ISUBST, R1, N2, R3, R5, __, __, __, __, __],
-];
-
-// fshift and fsubst.
-const FACE_TRANSFORMS: [[u8; 10]; 26] = [
-    [FSHIFT, FF, N0, FF, __, __, __, __, __, __], // fshift.ff
-    [FSHIFT, FT, N0, FT, __, __, __, __, __, __], // fshift.ft
-    [FSHIFT, AT0, N0, N1, AT0, N2, __, __, __, __], // fshift.0
-    [ISHIFT, DIM, N0, N1, DIM, N2, __, __, __, __],
-    [FSHIFT, AT1, N0, N1, AT1, N2, __, __, __, __], // fshift.1
-    [ISHIFT, DIM, N0, N1, DIM, N2, __, __, __, __],
-    [FSHIFT, FAND, F0, F1, N2, FAND, F3, F4, __, __], // fshift.and
-    [FSHIFT, F0, N2, F3, __, __, __, __, __, __],
-    [FSHIFT, F1, N2, F4, __, __, __, __, __, __],
-    [FSHIFT, FOR, F0, F1, N2, FOR, F3, F4, __, __], // fshift.or
-    [FSHIFT, F0, N2, F3, __, __, __, __, __, __],
-    [FSHIFT, F1, N2, F4, __, __, __, __, __, __],
-    [FSUBST, FF, N0, R1, FF, __, __, __, __, __], // fsubst.ff
-    [FSUBST, FT, N0, R1, FT, __, __, __, __, __], // fsubst.ft
-    [FSUBST, AT0, N0, N1, R2, F3, __, __, __, __], // fsubst.0
-    [ISUBST, DIM, N0, N1, R2, R4, __, __, __, __],
-    [BOUNDARY, R4, F3, F5, __, __, __, __, __, __],
-    [FSUBST, AT1, N0, N1, R2, F3, __, __, __, __], // fsubst.1
-    [ISUBST, DIM, N0, N1, R2, R4, __, __, __, __],
-    [BOUNDARY, R4, F5, F3, __, __, __, __, __, __],
-    [FSUBST, FAND, F0, F1, N2, R3, FAND, F4, F5, __], // fsubst.and
-    [FSUBST, F0, N2, R3, F4, __, __, __, __, __],
-    [FSUBST, F1, N2, R3, F5, __, __, __, __, __],
-    [FSUBST, FOR, F0, F1, N2, R3, FOR, F4, F5, __], // fsubst.or
-    [FSUBST, F0, N2, R3, F4, __, __, __, __, __],
-    [FSUBST, F1, N2, R3, F5, __, __, __, __, __],
-];
-
-fn order_line(i: usize) -> [u8; 10]
-    requires { ⌜ i < 6 ⌝ }
-    ensures { λ r. ⌜ r ≡ lineAt i ⌝ }
-{
-    ORDER[i]
-}
-
-fn bound_line(i: usize) -> [u8; 10]
-    requires { ⌜ (6 ≤ i) × (i < 30) ⌝ }
-    ensures { λ r. ⌜ r ≡ lineAt i ⌝ }
-{
-    BOUNDS[i - 6]
-}
-
-fn context_line(i: usize) -> [u8; 10]
-    requires { ⌜ (30 ≤ i) × (i < 36) ⌝ }
-    ensures { λ r. ⌜ r ≡ lineAt i ⌝ }
-{
-    CONTEXTS[i - 30]
-}
-
-fn cover_line(i: usize) -> [u8; 10]
-    requires { ⌜ (36 ≤ i) × (i < 58) ⌝ }
-    ensures { λ r. ⌜ r ≡ lineAt i ⌝ }
-{
-    COVERS[i - 36]
-}
-
-fn end_line(i: usize) -> [u8; 10]
-    requires { ⌜ (58 ≤ i) × (i < 81) ⌝ }
-    ensures { λ r. ⌜ r ≡ lineAt i ⌝ }
-{
-    ENDS[i - 58]
-}
-
-fn forall_line(i: usize) -> [u8; 10]
-    requires { ⌜ (81 ≤ i) × (i < 99) ⌝ }
-    ensures { λ r. ⌜ r ≡ lineAt i ⌝ }
-{
-    FORALLS[i - 81]
-}
-
-fn interval_transform_line(i: usize) -> [u8; 10]
-    requires { ⌜ (99 ≤ i) × (i < 128) ⌝ }
-    ensures { λ r. ⌜ r ≡ lineAt i ⌝ }
-{
-    INTERVAL_TRANSFORMS[i - 99]
-}
-
-fn face_transform_line(i: usize) -> [u8; 10]
-    requires { ⌜ (128 ≤ i) × (i < 154) ⌝ }
-    ensures { λ r. ⌜ r ≡ lineAt i ⌝ }
-{
-    FACE_TRANSFORMS[i - 128]
-}
-
-// Line i of all.
+// Line i of the rules. A `match` compiles to a jump and two stores; a constant would be copied whole for each line.
 fn line_of(i: usize) -> [u8; 10]
     requires { ⌜ i < 154 ⌝ }
     ensures { λ r. ⌜ r ≡ lineAt i ⌝ }
 {
-    if i < 6 {
-        return order_line(i);
+    match i {
+        // lt and le.
+        0 => [LT, 0, S0, __, __, __, __, __, __, __], // lt.z
+        1 => [LT, S0, S1, __, __, __, __, __, __, __], // lt.s
+        2 => [LT, N0, N1, __, __, __, __, __, __, __],
+        3 => [LE, 0, N0, __, __, __, __, __, __, __], // le.z
+        4 => [LE, S0, S1, __, __, __, __, __, __, __], // le.s
+        5 => [LE, N0, N1, __, __, __, __, __, __, __],
+        // interval and face.
+        6 => [INTERVAL, N0, I0, __, __, __, __, __, __, __], // interval.0
+        7 => [INTERVAL, N0, I1, __, __, __, __, __, __, __], // interval.1
+        8 => [INTERVAL, N0, DIM, N1, __, __, __, __, __, __], // interval.dim
+        9 => [LT, N1, N0, __, __, __, __, __, __, __],
+        10 => [INTERVAL, N0, NEG, R1, __, __, __, __, __, __], // interval.neg
+        11 => [INTERVAL, N0, R1, __, __, __, __, __, __, __],
+        12 => [INTERVAL, N0, MEET, R1, R2, __, __, __, __, __], // interval.meet
+        13 => [INTERVAL, N0, R1, __, __, __, __, __, __, __],
+        14 => [INTERVAL, N0, R2, __, __, __, __, __, __, __],
+        15 => [INTERVAL, N0, JOIN, R1, R2, __, __, __, __, __], // interval.join
+        16 => [INTERVAL, N0, R1, __, __, __, __, __, __, __],
+        17 => [INTERVAL, N0, R2, __, __, __, __, __, __, __],
+        18 => [FACE, N0, FF, __, __, __, __, __, __, __], // face.ff
+        19 => [FACE, N0, FT, __, __, __, __, __, __, __], // face.ft
+        20 => [FACE, N0, AT0, N1, __, __, __, __, __, __], // face.0
+        21 => [INTERVAL, N0, DIM, N1, __, __, __, __, __, __],
+        22 => [FACE, N0, AT1, N1, __, __, __, __, __, __], // face.1
+        23 => [INTERVAL, N0, DIM, N1, __, __, __, __, __, __],
+        24 => [FACE, N0, FAND, F1, F2, __, __, __, __, __], // face.and
+        25 => [FACE, N0, F1, __, __, __, __, __, __, __],
+        26 => [FACE, N0, F2, __, __, __, __, __, __, __],
+        27 => [FACE, N0, FOR, F1, F2, __, __, __, __, __], // face.or
+        28 => [FACE, N0, F1, __, __, __, __, __, __, __],
+        29 => [FACE, N0, F2, __, __, __, __, __, __, __],
+        // member and take.
+        30 => [MEMBER, F0, IN1, F0, G1, __, __, __, __, __], // member.here
+        31 => [MEMBER, F0, IN1, F1, G2, __, __, __, __, __], // member.there
+        32 => [MEMBER, F0, IN0, G2, __, __, __, __, __, __],
+        33 => [TAKE, IN1, F0, G1, F0, IN0, G1, __, __, __], // take.here
+        34 => [TAKE, IN1, F0, G1, F2, IN1, F0, G3, __, __], // take.there
+        35 => [TAKE, IN0, G1, F2, IN0, G3, __, __, __, __],
+        // cover.
+        36 => [COVER, IN0, G0, FT, __, __, __, __, __, __], // cover.top
+        37 => [COVER, IN0, G0, F1, __, __, __, __, __, __], // cover.hit
+        38 => [MEMBER, F1, IN0, G0, __, __, __, __, __, __],
+        39 => [COVER, IN0, G0, F1, __, __, __, __, __, __], // cover.absurd
+        40 => [MEMBER, FF, IN0, G0, __, __, __, __, __, __],
+        41 => [COVER, IN0, G0, F1, __, __, __, __, __, __], // cover.clash
+        42 => [MEMBER, AT0, N2, IN0, G0, __, __, __, __, __],
+        43 => [MEMBER, AT1, N2, IN0, G0, __, __, __, __, __],
+        44 => [COVER, IN0, G0, F1, __, __, __, __, __, __], // cover.and-left
+        45 => [TAKE, IN0, G0, FAND, F2, F3, IN0, G4, __, __],
+        46 => [COVER, IN2, F2, F3, G4, F1, __, __, __, __],
+        47 => [COVER, IN0, G0, F1, __, __, __, __, __, __], // cover.or-left
+        48 => [TAKE, IN0, G0, FOR, F2, F3, IN0, G4, __, __],
+        49 => [COVER, IN1, F2, G4, F1, __, __, __, __, __],
+        50 => [COVER, IN1, F3, G4, F1, __, __, __, __, __],
+        51 => [COVER, IN0, G0, FAND, F1, F2, __, __, __, __], // cover.and-right
+        52 => [COVER, IN0, G0, F1, __, __, __, __, __, __],
+        53 => [COVER, IN0, G0, F2, __, __, __, __, __, __],
+        54 => [COVER, IN0, G0, FOR, F1, F2, __, __, __, __], // cover.or-right0
+        55 => [COVER, IN0, G0, F1, __, __, __, __, __, __],
+        56 => [COVER, IN0, G0, FOR, F1, F2, __, __, __, __], // cover.or-right1
+        57 => [COVER, IN0, G0, F2, __, __, __, __, __, __],
+        // entails, boundary and local.
+        58 => [ENTAILS, N0, F1, F2, __, __, __, __, __, __], // entails.checked
+        59 => [FACE, N0, F1, __, __, __, __, __, __, __],
+        60 => [FACE, N0, F2, __, __, __, __, __, __, __],
+        61 => [COVER, IN1, F1, NIL, F2, __, __, __, __, __],
+        62 => [BOUNDARY, I0, FT, FF, __, __, __, __, __, __], // boundary.0
+        63 => [BOUNDARY, I1, FF, FT, __, __, __, __, __, __], // boundary.1
+        64 => [BOUNDARY, DIM, N0, AT0, N0, AT1, N0, __, __, __], // boundary.dim
+        65 => [BOUNDARY, NEG, R0, F1, F2, __, __, __, __, __], // boundary.neg
+        66 => [BOUNDARY, R0, F2, F1, __, __, __, __, __, __],
+        67 => [BOUNDARY, MEET, R0, R1, FOR, F2, F3, FAND, F4, F5], // boundary.meet
+        68 => [BOUNDARY, R0, F2, F4, __, __, __, __, __, __],
+        69 => [BOUNDARY, R1, F3, F5, __, __, __, __, __, __],
+        70 => [BOUNDARY, JOIN, R0, R1, FAND, F2, F3, FOR, F4, F5], // boundary.join
+        71 => [BOUNDARY, R0, F2, F4, __, __, __, __, __, __],
+        72 => [BOUNDARY, R1, F3, F5, __, __, __, __, __, __],
+        73 => [LOCAL, N0, F1, R2, I0, __, __, __, __, __], // local.0
+        74 => [INTERVAL, N0, R2, __, __, __, __, __, __, __],
+        75 => [BOUNDARY, R2, F3, F4, __, __, __, __, __, __],
+        76 => [ENTAILS, N0, F1, F3, __, __, __, __, __, __],
+        77 => [LOCAL, N0, F1, R2, I1, __, __, __, __, __], // local.1
+        78 => [INTERVAL, N0, R2, __, __, __, __, __, __, __],
+        79 => [BOUNDARY, R2, F3, F4, __, __, __, __, __, __],
+        80 => [ENTAILS, N0, F1, F4, __, __, __, __, __, __],
+        // fforall.
+        81 => [FFORALL, FF, N0, FF, __, __, __, __, __, __], // fforall.ff
+        82 => [FFORALL, FT, N0, FT, __, __, __, __, __, __], // fforall.ft
+        83 => [FFORALL, AT0, N0, N0, FF, __, __, __, __, __], // fforall.0.hit
+        84 => [FFORALL, AT0, N0, N1, AT0, N0, __, __, __, __], // fforall.0.lt
+        85 => [LT, N0, N1, __, __, __, __, __, __, __],
+        86 => [FFORALL, AT0, S0, N1, AT0, N0, __, __, __, __], // fforall.0.gt
+        87 => [LT, N1, S0, __, __, __, __, __, __, __],
+        88 => [FFORALL, AT1, N0, N0, FF, __, __, __, __, __], // fforall.1.hit
+        89 => [FFORALL, AT1, N0, N1, AT1, N0, __, __, __, __], // fforall.1.lt
+        90 => [LT, N0, N1, __, __, __, __, __, __, __],
+        91 => [FFORALL, AT1, S0, N1, AT1, N0, __, __, __, __], // fforall.1.gt
+        92 => [LT, N1, S0, __, __, __, __, __, __, __],
+        93 => [FFORALL, FAND, F0, F1, N2, FAND, F3, F4, __, __], // fforall.and
+        94 => [FFORALL, F0, N2, F3, __, __, __, __, __, __],
+        95 => [FFORALL, F1, N2, F4, __, __, __, __, __, __],
+        96 => [FFORALL, FOR, F0, F1, N2, FOR, F3, F4, __, __], // fforall.or
+        97 => [FFORALL, F0, N2, F3, __, __, __, __, __, __],
+        98 => [FFORALL, F1, N2, F4, __, __, __, __, __, __],
+        // ishift and isubst.
+        99 => [ISHIFT, I0, N0, I0, __, __, __, __, __, __], // ishift.0
+        100 => [ISHIFT, I1, N0, I1, __, __, __, __, __, __], // ishift.1
+        101 => [ISHIFT, DIM, N0, N1, DIM, N0, __, __, __, __], // ishift.dim.lt
+        102 => [LT, N0, N1, __, __, __, __, __, __, __],
+        103 => [ISHIFT, DIM, N0, N1, DIM, S0, __, __, __, __], // ishift.dim.ge
+        104 => [LE, N1, N0, __, __, __, __, __, __, __],
+        105 => [ISHIFT, NEG, R0, N1, NEG, R2, __, __, __, __], // ishift.neg
+        106 => [ISHIFT, R0, N1, R2, __, __, __, __, __, __],
+        107 => [ISHIFT, MEET, R0, R1, N2, MEET, R3, R4, __, __], // ishift.meet
+        108 => [ISHIFT, R0, N2, R3, __, __, __, __, __, __],
+        109 => [ISHIFT, R1, N2, R4, __, __, __, __, __, __],
+        110 => [ISHIFT, JOIN, R0, R1, N2, JOIN, R3, R4, __, __], // ishift.join
+        111 => [ISHIFT, R0, N2, R3, __, __, __, __, __, __],
+        112 => [ISHIFT, R1, N2, R4, __, __, __, __, __, __],
+        113 => [ISUBST, I0, N0, R1, I0, __, __, __, __, __], // isubst.0
+        114 => [ISUBST, I1, N0, R1, I1, __, __, __, __, __], // isubst.1
+        115 => [ISUBST, DIM, N0, N1, R2, DIM, N0, __, __, __], // isubst.dim.lt
+        116 => [LT, N0, N1, __, __, __, __, __, __, __],
+        117 => [ISUBST, DIM, N0, N0, R1, R1, __, __, __, __], // isubst.dim.hit
+        118 => [ISUBST, DIM, S0, N1, R2, DIM, N0, __, __, __], // isubst.dim.gt
+        119 => [LT, N1, S0, __, __, __, __, __, __, __],
+        120 => [ISUBST, NEG, R0, N1, R2, NEG, R3, __, __, __], // isubst.neg
+        121 => [ISUBST, R0, N1, R2, R3, __, __, __, __, __],
+        122 => [ISUBST, MEET, R0, R1, N2, R3, MEET, R4, R5, __], // isubst.meet
+        123 => [ISUBST, R0, N2, R3, R4, __, __, __, __, __],
+        124 => [ISUBST, R1, N2, R3, R5, __, __, __, __, __],
+        125 => [ISUBST, JOIN, R0, R1, N2, R3, JOIN, R4, R5, __], // isubst.join
+        126 => [ISUBST, R0, N2, R3, R4, __, __, __, __, __],
+        127 => [ISUBST, R1, N2, R3, R5, __, __, __, __, __],
+        // fshift and fsubst.
+        128 => [FSHIFT, FF, N0, FF, __, __, __, __, __, __], // fshift.ff
+        129 => [FSHIFT, FT, N0, FT, __, __, __, __, __, __], // fshift.ft
+        130 => [FSHIFT, AT0, N0, N1, AT0, N2, __, __, __, __], // fshift.0
+        131 => [ISHIFT, DIM, N0, N1, DIM, N2, __, __, __, __],
+        132 => [FSHIFT, AT1, N0, N1, AT1, N2, __, __, __, __], // fshift.1
+        133 => [ISHIFT, DIM, N0, N1, DIM, N2, __, __, __, __],
+        134 => [FSHIFT, FAND, F0, F1, N2, FAND, F3, F4, __, __], // fshift.and
+        135 => [FSHIFT, F0, N2, F3, __, __, __, __, __, __],
+        136 => [FSHIFT, F1, N2, F4, __, __, __, __, __, __],
+        137 => [FSHIFT, FOR, F0, F1, N2, FOR, F3, F4, __, __], // fshift.or
+        138 => [FSHIFT, F0, N2, F3, __, __, __, __, __, __],
+        139 => [FSHIFT, F1, N2, F4, __, __, __, __, __, __],
+        140 => [FSUBST, FF, N0, R1, FF, __, __, __, __, __], // fsubst.ff
+        141 => [FSUBST, FT, N0, R1, FT, __, __, __, __, __], // fsubst.ft
+        142 => [FSUBST, AT0, N0, N1, R2, F3, __, __, __, __], // fsubst.0
+        143 => [ISUBST, DIM, N0, N1, R2, R4, __, __, __, __],
+        144 => [BOUNDARY, R4, F3, F5, __, __, __, __, __, __],
+        145 => [FSUBST, AT1, N0, N1, R2, F3, __, __, __, __], // fsubst.1
+        146 => [ISUBST, DIM, N0, N1, R2, R4, __, __, __, __],
+        147 => [BOUNDARY, R4, F5, F3, __, __, __, __, __, __],
+        148 => [FSUBST, FAND, F0, F1, N2, R3, FAND, F4, F5, __], // fsubst.and
+        149 => [FSUBST, F0, N2, R3, F4, __, __, __, __, __],
+        150 => [FSUBST, F1, N2, R3, F5, __, __, __, __, __],
+        151 => [FSUBST, FOR, F0, F1, N2, R3, FOR, F4, F5, __], // fsubst.or
+        152 => [FSUBST, F0, N2, R3, F4, __, __, __, __, __],
+        _ => [FSUBST, F1, N2, R3, F5, __, __, __, __, __],
     }
-    if i < 30 {
-        return bound_line(i);
-    }
-    if i < 36 {
-        return context_line(i);
-    }
-    if i < 58 {
-        return cover_line(i);
-    }
-    if i < 81 {
-        return end_line(i);
-    }
-    if i < 99 {
-        return forall_line(i);
-    }
-    if i < 128 {
-        return interval_transform_line(i);
-    }
-    face_transform_line(i)
 }
 
 // The line in which byte i of the rows stands, by the line of the byte before it.
