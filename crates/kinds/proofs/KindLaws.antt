@@ -33,11 +33,6 @@ numbered pIsubst = (refl, omega arith)
 numbered pFshift = (refl, omega arith)
 numbered pFsubst = (refl, omega arith)
 
--- An answer of the table has the number of a predicate.
-pub listed-below : (x : Entry) {n p : ℕ} → entryAs x ≡ Listed n p → p < 15
-listed-below (entry name k q) {p} e = let z : numberOf q ≡ p = cc in omega (arith, numbered q .1)
-listed-below unlisted e = let z : _≡_ {A = ℕ} 0 1 = cc in absurd (omega arith)
-
 abbrev isListed : Entry → Bool
 isListed (entry name n p) = true
 isListed unlisted = false
