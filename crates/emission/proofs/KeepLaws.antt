@@ -1,5 +1,5 @@
 -- A step more in a ledger and in its index.
-use Prim.Native.Nat.{ℕ, suc, _+_, _/_, _<_}
+use Prim.Native.Nat.{ℕ, suc, _+_, _<_, _≤_}
 use native.Mathlib.Omega.{arith}
 use mathlib.Core.Path.{_≡_, sym, ap, ap₂, _∙_, subst}
 use mathlib.Core.Bool.{true, false}
@@ -14,7 +14,8 @@ use Rattle.kinds.specs.declared.Entry.the-variants.{Listed}
 use Rattle.kinds.proofs.KindLaws.{listed-same}
 use Rattle.ledger.specs.Ledger.{stepsOf, placeOf}
 use Rattle.ledger.proofs.LedgerLaws.{holds-steps, holds-led, place-last}
-use Rattle.index.specs.Index.{bucketOf, bucketAt, headsOf, IndexedTo, Roomy, Indexed, entered, Enterable, Enters}
+use Rattle.index.specs.Index.{bucketOf, bucketAt, headsOf, placesFrom, IndexedTo, Roomy, Indexed, Entered, Enterable, Enters}
+use Rattle.index.proofs.RoomLaws.{same-shape}
 use Rattle.index.proofs.EnterLaws.{entered-length, indexed-after, indexed-more, place-more}
 use Rattle.index.proofs.BuildLaws.{enterable}
 use Rattle.emission.specs.Emitting.{Appends, Keeps, KeepsAs}
@@ -38,8 +39,11 @@ module _ {l x : List ℕ} (e : Indexed l x) (p b at : ℕ) (o l′ x′ : List �
   fits : Enterable x
   fits = let r : Roomy l′ x = omega (arith, e .room, holds .0) in enterable l′ more x (length L) (holds .1) r (omega (arith, more-length)) (e .steps .count)
 
-  stored : x′ ≡ entered (headsOf x) (length L) x b at
-  stored = enters fits ∙ ap (λ (n : ℕ). entered (headsOf x) n x b at) (e .steps .count)
+  stored : Entered (headsOf x) (placesFrom x) (length L) x b at x′
+  stored = subst (λ (n : ℕ). Entered (headsOf x) (placesFrom x) n x b at x′) (e .steps .count) (enters fits)
+
+  within : placesFrom x ≤ length x
+  within = omega arith
 
   in-bucket : b ≡ bucketAt (headsOf x) more (length L)
   in-bucket =
@@ -49,22 +53,15 @@ module _ {l x : List ℕ} (e : Indexed l x) (p b at : ℕ) (o l′ x′ : List �
   at-place : at ≡ placeOf more (length L)
   at-place = behind ∙ sym (place-last L) ∙ sym (place-more L (s ∷ []) (length L) (omega arith))
 
-  steps-more : IndexedTo (headsOf x) more (entered (headsOf x) (length L) x b at) (suc (length L))
-  steps-more = indexed-after (indexed-more (e .steps) (omega arith) (s ∷ [])) b at below in-bucket at-place (omega (arith, fits .1, e .steps .count)) (omega (arith, fits .0, e .steps .count))
-
-  same-length : length x′ ≡ length x
-  same-length = ap length stored ∙ entered-length (headsOf x) (length L) x b at
+  steps-more : IndexedTo (headsOf x) (placesFrom x) more x′ (suc (length L))
+  steps-more = indexed-after stored within (indexed-more (e .steps) (omega arith) (s ∷ [])) below in-bucket at-place (omega (arith, fits .1, e .steps .count)) (omega (arith, fits .0, e .steps .count))
 
   pub indexed-step : Indexed l′ x′
   indexed-step =
-      let h : headsOf x ≡ headsOf x′ = ap (λ (n : ℕ). n / 9 + 1) (sym same-length) in
+      let n : length x′ ≡ length x = entered-length stored within in
       let m : more ≡ stepsOf l′ = sym (holds-steps (holds .1)) in
-      let a : IndexedTo (headsOf x) more x′ (length more) = subst (λ (z : List ℕ). IndexedTo (headsOf x) more z (length more)) (sym stored) (subst (IndexedTo (headsOf x) more (entered (headsOf x) (length L) x b at)) (sym more-length) steps-more) in
-      record {
-        led = holds-led (holds .1);
-        room = omega (arith, e .room, holds .0, same-length);
-        steps = subst (λ (M : List Step). IndexedTo (headsOf x′) M x′ (length M)) m (subst (λ (k : ℕ). IndexedTo k more x′ (length more)) h a);
-      }
+      let a : IndexedTo (headsOf x) (placesFrom x) (stepsOf l′) x′ (length (stepsOf l′)) = subst (λ (M : List Step). IndexedTo (headsOf x) (placesFrom x) M x′ (length M)) m (subst (IndexedTo (headsOf x) (placesFrom x) more x′) (sym more-length) steps-more) in
+      same-shape x (holds-led (holds .1)) (omega (arith, e .room, holds .0)) n a
 
 -- Where there is no room, nothing changes.
 pub indexed-full : {l x : List ℕ} → Indexed l x → (s : Step) (l′ : List ℕ) → Appends l s false l′ → Indexed l′ x

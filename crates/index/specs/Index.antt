@@ -1,10 +1,10 @@
--- A chained index of a ledger's steps in a list of numbers: how many steps, a head for each bucket, a link and a place for each step.
+-- A chained index of a ledger's steps in a list of numbers: how many steps, a head for each bucket, a link for each step, and the places of every 16th.
 use mathlib.Core.Path.{_≡_}
 use mathlib.Core.Bool.{Bool, true, false}
-use mathlib.Core.List.{List}
+use mathlib.Core.List.{List, _++_}
 use Prim.Native.Nat.{ℕ, zero, suc, _+_, _*_, _-_, _/_, _%_, _≤_, _<_}
 use lib.Dec.{eqb, leb}
-use lib.ListN.{length, getD, set}
+use lib.ListN.{length, getD, set, take, drop}
 use Rattle.formula.specs.Formula.{Face}
 use Rattle.calculus.specs.Judgement.{Step, cover}
 use Rattle.calculus.specs.Table.{pCover, predicate}
@@ -14,7 +14,8 @@ use Rattle.calculus.specs.Emit.{done, run}
 use Rattle.calculus.specs.Calls.{emitCover}
 use Rattle.kinds.specs.Kinds.{numberOf}
 use Rattle.records.specs.Places.{littleAt}
-use Rattle.ledger.specs.Ledger.{stepsOf, Led, placeOf}
+use Rattle.ledger.specs.Ledger.{stepsOf, Led}
+use Rattle.ledger.specs.Noting.{Noted, Notes}
 use Rattle.index.specs.declared.Found.{Found}
 use Rattle.index.specs.declared.Found.the-variants.{At, Absent}
 
@@ -62,9 +63,17 @@ unfoldable pub last : ℕ → List Step → ℕ → ℕ → ℕ
 last H L b zero = 0
 last H L b (suc i) = choose (eqb (bucketAt H L i) b) (suc i) (last H L b i)
 
--- How many buckets a list of numbers has: a ninth of it, and one.
+-- A list of numbers has groups of 21: four heads, sixteen links and a place.
+abbrev pub groupsOf : List ℕ → ℕ
+groupsOf x = (length x - 2) / 21
+
+-- How many buckets it has.
 abbrev pub headsOf : List ℕ → ℕ
-headsOf x = length x / 9 + 1
+headsOf x = 4 * groupsOf x + 1
+
+-- Where its places begin, behind the count, the heads and the links.
+abbrev pub placesFrom : List ℕ → ℕ
+placesFrom x = length x - groupsOf x
 
 -- The search for the judgement of step i has been made: made again, it appends nothing and answers i.
 abbrev pub Finished : List Step → ℕ → Type 0
@@ -74,39 +83,51 @@ Finished L i = (G : List Face) (g : Face) → judgementAt L i ≡ cover G g → 
 abbrev pub mark : ℕ
 mark = 2147483648
 
--- The list is the index, with H buckets, of the first n steps: their count, the heads, and for each step the link to the one before it in its bucket, marked only where its search is finished, and its place.
-pub record IndexedTo (H : ℕ) (L : List Step) (x : List ℕ) (n : ℕ) : Type 0 where
+-- The list is the index, with H buckets and places from P on, of the first n steps: their count, the heads, for each step the link to the one before it in its bucket, marked only where its search is finished, and the place of every 16th step.
+pub record IndexedTo (H P : ℕ) (L : List Step) (x : List ℕ) (n : ℕ) : Type 0 where
   pub count : getD x 0 0 ≡ n
   pub head : (b : ℕ) → b < H → getD x (1 + b) 0 ≡ last H L b n
-  pub link : (i : ℕ) → i < n → getD x (1 + H + 2 * i) 0 % mark ≡ last H L (bucketAt H L i) i
-  pub marks : (i : ℕ) → i < n → mark ≤ getD x (1 + H + 2 * i) 0 → Finished L i
-  pub place : (i : ℕ) → i < n → getD x (2 + H + 2 * i) 0 ≡ placeOf L i
+  pub link : (i : ℕ) → i < n → getD x (1 + H + i) 0 % mark ≡ last H L (bucketAt H L i) i
+  pub marks : (i : ℕ) → i < n → mark ≤ getD x (1 + H + i) 0 → Finished L i
+  pub places : Noted L n (drop P x)
 
 -- There is room for every step that the ledger has room for: a record has eight bytes or more.
 abbrev pub Roomy : List ℕ → List ℕ → Type 0
-Roomy l x = length l + 4 * headsOf x ≤ 4 * length x
+Roomy l x = length l ≤ 128 * groupsOf x
 
 -- The list is the index of all steps of a ledger.
 pub record Indexed (l x : List ℕ) : Type 0 where
   pub led : Led l
   pub room : Roomy l x
-  pub steps : IndexedTo (headsOf x) (stepsOf l) x (length (stepsOf l))
+  pub steps : IndexedTo (headsOf x) (placesFrom x) (stepsOf l) x (length (stepsOf l))
 
--- For a private contract: one step more behind n others, in bucket b of H, with its record at a place.
-unfoldable pub entered : ℕ → ℕ → List ℕ → ℕ → ℕ → List ℕ
-entered H n x b at = set (set (set (set x (1 + H + 2 * n) (getD x (1 + b) 0)) (2 + H + 2 * n) at) (1 + b) (n + 1)) 0 (n + 1)
+-- For a private contract: the link and the head of one step more behind n others, in bucket b of H, and the count.
+unfoldable pub linked : ℕ → ℕ → List ℕ → ℕ → List ℕ
+linked H n x b = set (set (set x (1 + H + n) (getD x (1 + b) 0)) (1 + b) (n + 1)) 0 (n + 1)
+
+-- For a private contract: the place of step n is noted, from P on.
+pub record Placed (P n at : ℕ) (x x′ : List ℕ) : Type 0 where
+  pub noted : List ℕ
+  pub notes : Notes n at (drop P x) noted
+  pub whole : x′ ≡ take P x ++ noted
+
+-- For a private contract: one step more behind n others, in bucket b of H, with its record at a place, which is noted from P on.
+pub record Entered (H P n : ℕ) (x : List ℕ) (b at : ℕ) (x′ : List ℕ) : Type 0 where
+  pub base : List ℕ
+  pub placed : Placed P n at x base
+  pub whole : x′ ≡ linked H n base b
 
 -- For a private contract: there is room for one step more.
 abbrev pub Enterable : List ℕ → Type 0
-Enterable x = (getD x 0 0 < 1048576) × (3 + headsOf x + 2 * getD x 0 0 ≤ length x)
+Enterable x = (getD x 0 0 < 1048576) × (getD x 0 0 < 16 * groupsOf x)
 
 -- For a private contract: one step more, where there is room.
 abbrev pub Enters : List ℕ → ℕ → ℕ → List ℕ → Type 0
-Enters x b at x′ = Enterable x → x′ ≡ entered (headsOf x) (getD x 0 0) x b at
+Enters x b at x′ = Enterable x → Entered (headsOf x) (placesFrom x) (getD x 0 0) x b at x′
 
 -- For a private contract: a mark more, at step i.
 unfoldable pub marked : ℕ → List ℕ → ℕ → List ℕ
-marked H x i = set x (1 + H + 2 * i) (getD x (1 + H + 2 * i) 0 + mark)
+marked H x i = set x (1 + H + i) (getD x (1 + H + i) 0 + mark)
 
 -- What is known of the search for a cover judgement with these operands: that it is finished and answers i, or nothing.
 abbrev pub Knows : List Step → List ℕ → Found → Type 0

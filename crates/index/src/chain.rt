@@ -27,12 +27,13 @@ pub fn find_in(l: &[u8], x: &[u32], b: usize, predicate: usize, operands: &[u8])
     requires { ⌜ Indexed (now l) (now x) × (b ≡ bucketOf (headsOf (now x)) predicate (now operands)) × (b < headsOf (now x)) ⌝ }
     ensures { λ r. ⌜ r ≡ foundAs (findBytes predicate (now (operands .entry)) (stepsOf (now (l .entry)))) (length (stepsOf (now (l .entry)))) ⌝ }
 {
+    let p = enter::places_from(x.len());
     let mut i = enter::slot(x, 1 + b);
     let mut found: usize = 0;
     while 0 < i {
         let step = i - 1;
-        let at = enter::place(x, step);
-        found = better(Cursor { step, at }, l, predicate, operands, found);
+        let c = ledger::places::find_step(l, &x[p..], step);
+        found = better(c, l, predicate, operands, found);
         i = enter::link(x, step);
     }
     if found == 0 {

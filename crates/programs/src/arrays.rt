@@ -13,7 +13,7 @@ fn small(l: &mut [u8], p: Program, a: &[u8], b: &[u8], c: &[u8], e: &[u8]) -> Ra
     requires { ⌜ Led (now l) × (length (now l) ≤ 4096) × Ready p (now a) (now b) (now c) (now e) ⌝ }
     ensures { λ r. ⌜ RunsOn (now (l .entry)) (programOf p (now (a .entry)) (now (b .entry))) r (now (l .exit)) ⌝ }
 {
-    let mut ix = [0u32; 1156];
+    let mut ix = [0u32; 674];
     index::build(l, &mut ix);
     emitters::emit(l, &mut ix, p, a, b, c, e)
 }
@@ -23,7 +23,7 @@ fn medium(l: &mut [u8], p: Program, a: &[u8], b: &[u8], c: &[u8], e: &[u8]) -> R
     requires { ⌜ Led (now l) × (length (now l) ≤ 65536) × Ready p (now a) (now b) (now c) (now e) ⌝ }
     ensures { λ r. ⌜ RunsOn (now (l .entry)) (programOf p (now (a .entry)) (now (b .entry))) r (now (l .exit)) ⌝ }
 {
-    let mut ix = [0u32; 18436];
+    let mut ix = [0u32; 10754];
     index::build(l, &mut ix);
     emitters::emit(l, &mut ix, p, a, b, c, e)
 }
@@ -33,7 +33,7 @@ fn large(l: &mut [u8], p: Program, a: &[u8], b: &[u8], c: &[u8], e: &[u8]) -> Ra
     requires { ⌜ Led (now l) × (length (now l) ≤ 1048576) × Ready p (now a) (now b) (now c) (now e) ⌝ }
     ensures { λ r. ⌜ RunsOn (now (l .entry)) (programOf p (now (a .entry)) (now (b .entry))) r (now (l .exit)) ⌝ }
 {
-    let mut ix = [0u32; 294920];
+    let mut ix = [0u32; 172034];
     index::build(l, &mut ix);
     emitters::emit(l, &mut ix, p, a, b, c, e)
 }

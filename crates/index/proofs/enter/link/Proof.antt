@@ -2,7 +2,7 @@ use borrow.Author.Needs.{needs}
 use Rattle.index.proofs.enter.link.Statement.{statement}
 use Rattle.index.proofs.enter.link.Tie as tie
 use mathlib.Core.Path.{ap, _∙_}
-use Prim.Native.Nat.{ℕ, _+_, _*_, _%_}
+use Prim.Native.Nat.{ℕ, _+_, _%_}
 use lib.ListN.{getD}
 use Rattle.index.specs.Index.{mark}
 
@@ -12,9 +12,6 @@ heads-requires c κs = search needs
 add-slot : tie.Need-add-slot
 add-slot c = search needs
 
-mul-slot : tie.Need-mul-slot
-mul-slot c = search needs
-
 add-slot-2 : tie.Need-add-slot-2
 add-slot-2 c = search needs
 
@@ -22,7 +19,7 @@ slot-requires : tie.Need-slot-requires
 slot-requires c κs = search needs
 
 returns : tie.Need-returns
-returns c = ap (λ (v : ℕ). v % mark) (c .slot .ensures .0) ∙ ap (λ (h : ℕ). getD (c .before .before .before .args .x .now) (1 + h + 2 * c .before .before .before .args .i) 0 % mark) (c .before .heads .ensures)
+returns c = ap (λ (v : ℕ). v % mark) (c .slot .ensures .0) ∙ ap (λ (h : ℕ). getD (c .before .before .before .args .x .now) (1 + h + c .before .before .before .args .i) 0 % mark) (c .before .heads .ensures)
 
 pub link-spec : {M : Type 1} → statement M
-link-spec = tie.close (tie.spec heads-requires add-slot mul-slot add-slot-2 slot-requires returns)
+link-spec = tie.close (tie.spec heads-requires add-slot add-slot-2 slot-requires returns)

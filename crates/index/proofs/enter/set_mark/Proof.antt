@@ -3,7 +3,7 @@ use Rattle.index.proofs.enter.set_mark.Statement.{statement}
 use Rattle.index.proofs.enter.set_mark.Tie as tie
 use native.Mathlib.Omega.{arith}
 use mathlib.Core.Path.{_≡_, ap}
-use Prim.Native.Nat.{ℕ, _+_, _*_}
+use Prim.Native.Nat.{ℕ, _+_}
 use lib.ListN.{getD, set}
 use Rattle.index.specs.Index.{headsOf, mark, marked}
 
@@ -12,9 +12,6 @@ heads-requires c κs = search needs
 
 add-k : tie.Need-add-k
 add-k c = search needs
-
-mul-k : tie.Need-mul-k
-mul-k c = search needs
 
 add-k-2 : tie.Need-add-k-2
 add-k-2 c = search needs
@@ -27,7 +24,7 @@ slice-read-x c = search needs
 
 add-x : tie.Need-add-x
 add-x c = let a = c .before .before .before .args in
-    let e : getD (a .x .now) (1 + c .before .heads .result + 2 * a .i) 0 ≡ getD (a .x .now) (1 + headsOf (a .x .now) + 2 * a .i) 0 = ap (λ (h : ℕ). getD (a .x .now) (1 + h + 2 * a .i) 0) (c .before .heads .ensures) in
+    let e : getD (a .x .now) (1 + c .before .heads .result + a .i) 0 ≡ getD (a .x .now) (1 + headsOf (a .x .now) + a .i) 0 = ap (λ (h : ℕ). getD (a .x .now) (1 + h + a .i) 0) (c .before .heads .ensures) in
     omega (arith, e, c .before .before .before .pre .1)
 
 mul-x-2 : tie.Need-mul-x-2
@@ -41,7 +38,7 @@ same-length c = search needs
 
 returns : tie.Need-returns
 unfolding marked
-returns c = let a = c .before .before .before .args in ap (λ (h : ℕ). set (a .x .now) (1 + h + 2 * a .i) (getD (a .x .now) (1 + h + 2 * a .i) 0 + mark)) (c .before .heads .ensures)
+returns c = let a = c .before .before .before .args in ap (λ (h : ℕ). set (a .x .now) (1 + h + a .i) (getD (a .x .now) (1 + h + a .i) 0 + mark)) (c .before .heads .ensures)
 
 pub set-mark-spec : {M : Type 1} → statement M
 set-mark-spec =
@@ -49,7 +46,6 @@ set-mark-spec =
     (tie.spec
     heads-requires
     add-k
-    mul-k
     add-k-2
     mul-x
     slice-read-x

@@ -8,7 +8,7 @@ slice-aggregate-build : tie.Need-slice-aggregate-build
 slice-aggregate-build c = search needs
 
 build-requires : tie.Need-build-requires
-build-requires c κs = (c .before .before .before .before .before .before .before .pre .0, roomy (c .before .before .before .before .before .before .before .args .l .now) 294920 1048576 (c .before .before .before .before .before .before .before .pre .1) (omega arith))
+build-requires c κs = (c .before .before .before .before .before .before .before .pre .0, roomy (c .before .before .before .before .before .before .before .args .l .now) 172034 1048576 (c .before .before .before .before .before .before .before .pre .1) (omega arith))
 
 slice-aggregate-emit : tie.Need-slice-aggregate-emit
 slice-aggregate-emit c = search needs
