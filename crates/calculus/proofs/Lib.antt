@@ -20,3 +20,5 @@ pub mod Doors
 pub mod Demands
 pub mod Replies
 pub mod Oracle
+pub mod Memory
+pub mod Marking

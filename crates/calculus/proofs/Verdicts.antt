@@ -116,7 +116,7 @@ module _ (room : List Step → Bool) where
       says-as (sym (leb-max (boundFace a) (boundFace b) d)) (says-next (face-says d a L) (λ i M.
       says-then (face-says d b M) (λ k N. says-emit not-below 16 (i ∷ k ∷ []) (face d (for a b)) N)))
 
-  member-says : (f : Face) (G : List Face) (L : List Step) → List·Memᴰ f G → Says true not-implied (run room (emitMember f G) L)
+  pub member-says : (f : Face) (G : List Face) (L : List Step) → List·Memᴰ f G → Says true not-implied (run room (emitMember f G) L)
   unfolding run emitMember
   member-says f [] L m = elim m [ ]
   member-says f (g ∷ G) L m = go (sameFace g f) m (member-says f G L)
@@ -130,7 +130,7 @@ module _ (room : List Step → Bool) where
       go (yes e) m h = says-emit not-implied 17 [] (member f (g ∷ G)) L
       go (no e) m h = says-then (h (rest e m)) (λ i M. says-emit not-implied 18 (i ∷ []) (member f (g ∷ G)) M)
 
-  take-says : (b : List Face) (x : Face) (a : List Face) (L : List Step) → Says true not-implied (run room (emitTake b x a) L)
+  pub take-says : (b : List Face) (x : Face) (a : List Face) (L : List Step) → Says true not-implied (run room (emitTake b x a) L)
   unfolding run emitTake
   take-says [] x a L = says-emit not-implied 19 [] (take (x ∷ a) x a) L
   take-says (g ∷ b) x a L = says-then (take-says b x a L) (λ i M. says-emit not-implied 20 (i ∷ []) (take (g ∷ (b ++ x ∷ a)) x (g ∷ (b ++ a))) M)
@@ -154,7 +154,7 @@ module _ (room : List Step → Bool) where
       says-instead (h G x L) (λ i M. says-emit not-implied 28 (i ∷ []) (cover G g) M) (λ M. says-then (h G y M) (λ k N. says-emit not-implied 29 (k ∷ []) (cover G g) N))
   move-says c p h (is-stuck s) L = says-no refl
 
-  coverIn-says : (n : ℕ) (G : List Face) (g : Face) (L : List Step) → Says (searchIn n G g) not-implied (run room (emitCoverIn n G g) L)
+  pub coverIn-says : (n : ℕ) (G : List Face) (g : Face) (L : List Step) → Says (searchIn n G g) not-implied (run room (emitCoverIn n G g) L)
   unfolding run emitCoverIn searchIn
   coverIn-says zero G g L = says-no refl
   coverIn-says (suc n) G g L = move-says (searchIn n) (emitCoverIn n) (coverIn-says n) (move-view G g) L
