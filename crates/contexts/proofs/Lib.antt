@@ -5,3 +5,4 @@ pub mod TakeLaws
 pub mod MoveLaws
 pub mod LeftLaws
 pub mod ClosingLaws
+pub mod PassLaws

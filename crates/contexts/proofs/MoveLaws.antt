@@ -8,7 +8,7 @@ use lib.ListN.{length, getD, take, drop}
 use Rattle.formula.specs.declared.Sort.the-variants.{Faces}
 use Rattle.formula.specs.Formula.{lo, hi, Face, ff, ft, at, fand, for}
 use Rattle.formula.specs.Bytes.{dimBytes, encodeFace, nodesFace, boundFace}
-use Rattle.formula.specs.Answers.{sameBytes, partAt, treeOf}
+use Rattle.formula.specs.Answers.{partAt, treeOf}
 use Rattle.formula.proofs.Reading.{encode-pos}
 use Rattle.calculus.specs.Judgement.{sameFace}
 use Rattle.calculus.specs.Search.{Move, by-clash, stuck, _else_, provided, has, clashOf, tryClash, splitOf, tryLeft}
@@ -19,15 +19,9 @@ use Rattle.contexts.specs.declared.moves.Clash.the-variants.{Of, Free}
 use Rattle.contexts.specs.Contexts.{Are, contextOf}
 use Rattle.contexts.specs.Moves.{clashBy, compound, FirstCompound}
 use Rattle.contexts.proofs.ContextLaws.{context-of, tail, first-of}
-use Rattle.contexts.proofs.MemberLaws.{same-face, other-face}
 
--- No face is in an empty context.
-pub has-none : {G : List Face} {n : ℕ} {g : List ℕ} (f : Face) → Are G n g → n ≡ 0 → false ≡ has f G
-unfolding has
-has-none {G = []} f w e = refl
-has-none {G = x ∷ G} f w e = absurd (omega (arith, w .count))
-
-has-same : (f x : Face) (H : List Face) → f ≡ x → true ≡ has f (x ∷ H)
+-- A face in front, and another one.
+pub has-same : (f x : Face) (H : List Face) → f ≡ x → true ≡ has f (x ∷ H)
 unfolding has decide
 has-same f x H e = go (sameFace f x)
   where
@@ -35,20 +29,13 @@ has-same f x H e = go (sameFace f x)
     go (yes p) = refl
     go (no p) = absurd (p e)
 
-has-other : (f x : Face) (H : List Face) → (f ≡ x → ⊥) → has f H ≡ has f (x ∷ H)
+pub has-other : (f x : Face) (H : List Face) → (f ≡ x → ⊥) → has f H ≡ has f (x ∷ H)
 unfolding has decide
 has-other f x H e = go (sameFace f x)
   where
     go : (d : Dec (f ≡ x)) → has f H ≡ (decide d || has f H)
     go (yes p) = absurd (e p)
     go (no p) = refl
-
-module _ {f : Face} {G : List Face} {n : ℕ} {g h k : List ℕ} (a : Is Faces f k) (w : Are G n g) (z : n ≡ 0 → ⊥) (p : h ≡ partAt Faces g 0) where
-  pub has-here : sameBytes k h ≡ true → true ≡ has f G
-  has-here e = let v = first-of G n g h w z p in has-same f (v .first) (v .rest) (same-face a (v .face) e) ∙ ap (has f) (sym (v .whole))
-
-  pub has-there : sameBytes k h ≡ false → has f (contextOf (n - 1) (tail (length h) g)) ≡ has f G
-  has-there e = let v = first-of G n g h w z p in ap (has f) (context-of (v .others)) ∙ has-other f (v .first) (v .rest) (other-face a (v .face) e) ∙ ap (has f) (sym (v .whole))
 
 -- The first byte of a face.
 abbrev pub kind : Face → ℕ

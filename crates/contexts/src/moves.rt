@@ -20,14 +20,17 @@ pub fn has(f: &[u8], n: usize, g: &[u8]) -> bool
     requires { ⌜ Known Faces (now f) × Context n (now g) ⌝ }
     ensures { λ r. ⌜ r ≡ has (treeOf Faces (now (f .entry))) (contextOf n (now (g .entry))) ⌝ }
 {
-    if n == 0 {
-        return false;
+    let mut i: usize = 0;
+    let mut at: usize = 0;
+    while i < n {
+        let h = formula::formula_at(Sort::Faces, g, at);
+        if formula::same(f, h) {
+            return true;
+        }
+        at += h.len();
+        i += 1;
     }
-    let h = formula::formula_at(Sort::Faces, g, 0);
-    if formula::same(f, h) {
-        return true;
-    }
-    has(f, n - 1, &g[h.len()..])
+    false
 }
 
 // The clash of the face x, where it is a literal whose opposite is in the context.
