@@ -6,3 +6,4 @@ pub mod MoveLaws
 pub mod LeftLaws
 pub mod ClosingLaws
 pub mod PassLaws
+pub mod ClashLaws

@@ -2,8 +2,8 @@
 use mathlib.Core.Path.{_≡_}
 use mathlib.Core.Bool.{Bool, true, false}
 use mathlib.Core.List.{List, [], _∷_, _++_}
-use Prim.Native.Nat.{ℕ, suc, _<_}
-use lib.ListN.{length, getD, take, drop}
+use Prim.Native.Nat.{ℕ, suc, _+_, _-_, _*_, _≤_, _<_}
+use lib.ListN.{length, getD, set, take, drop}
 use Rattle.formula.specs.Formula.{lo, hi, Face, ff, ft, at, fand, for}
 use Rattle.calculus.specs.Search.{Move, by-clash, stuck, splitOf, tryLeft}
 use Rattle.calculus.specs.Judgement.{Step, cover}
@@ -53,3 +53,10 @@ coverClash k G g = do
 abbrev pub Settled : List Step → List Face → Face → Found → Type 0
 Settled L G g (At i) = (room : List Step → Bool) → run room (emitCover G g) L ≡ done i L
 Settled L G g (Absent n) = Unit {0}
+
+-- For a private contract: the face with these bytes is met. Where it is a literal of kind byte b on dimension k, number 2 k + (b - 2) of the table becomes 1, and yes is said only where that of its opposite is 0; else the table stays.
+pub record Meets (l s : List ℕ) (r : Bool) (s′ : List ℕ) : Type 0 where
+  pub other : getD l 0 0 < 2 → s′ ≡ s
+  pub compounds : 3 < getD l 0 0 → s′ ≡ s
+  pub keeps : 2 ≤ getD l 0 0 → getD l 0 0 ≤ 3 → s′ ≡ set s (2 * getD l 1 0 + (getD l 0 0 - 2)) 1
+  pub free : 2 ≤ getD l 0 0 → getD l 0 0 ≤ 3 → r ≡ true → getD s (2 * getD l 1 0 + (3 - getD l 0 0)) 0 ≡ 0

@@ -1,4 +1,5 @@
 // Contexts on bytes, for the search: members, what is left when a face is left out, tests of the next move, and the moves that close the search. A context is a count and the bytes of its faces.
+mod clashes;
 mod closings;
 mod contexts;
 mod lefts;

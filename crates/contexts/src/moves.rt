@@ -1,4 +1,5 @@
 // The next move of the search: tests of the context, in the order of the tries.
+use crate::clashes;
 use formula::Sort;
 ghost use mathlib.Core.Path.{_≡_};
 ghost use Prim.Native.Nat.{_≤_};
@@ -72,6 +73,10 @@ pub fn first_clash(n: usize, g: &[u8]) -> Clash
     requires { ⌜ Context n (now g) ⌝ }
     ensures { λ r. ⌜ clashBy r ≡ tryClash (contextOf n (now (g .entry))) (contextOf n (now (g .entry))) ⌝ }
 {
+    let mut seen = [0u8; 512];
+    if clashes::apart(n, g, &mut seen) {
+        return Clash::Free;
+    }
     clash_in(n, g, n, g)
 }
 

@@ -7,7 +7,7 @@ use Rattle.formula.specs.declared.Sort.the-variants.{Faces}
 use Rattle.formula.specs.Answers.{treeOf}
 use Rattle.contexts.specs.Contexts.{contextOf}
 use Rattle.contexts.proofs.ContextLaws.{context-short}
-use Rattle.contexts.proofs.PassLaws.{Passed, pass-start, pass-inside, pass-found, pass-turn, pass-end}
+use Rattle.contexts.proofs.PassLaws.{Passed, pass-start, standing-inside, pass-found, pass-turn, pass-end}
 
 abbrev Inv-loop : tie.InvT-loop
 Inv-loop f n g i₀ at₀ i at = Passed (treeOf Faces f) (contextOf n g) n i at
@@ -28,7 +28,7 @@ returns : tie.Need-returns Inv-loop μ-loop
 returns c = pass-found (c .before .before .before .before .before .before .before .pre .0) (c .before .before .before .before .before .before .before .pre .1) (c .before .before .before .before .loop .inv) (c .before .before .before .loop-test .taken) (c .before .before .formula-at .ensures) (sym (c .before .same .ensures) ∙ c .if1 .taken)
 
 add-at : tie.Need-add-at Inv-loop μ-loop
-add-at c = omega (arith, pass-inside (c .before .before .before .before .before .before .before .pre .0) (c .before .before .before .before .before .before .before .pre .1) (c .before .before .before .before .loop .inv) (c .before .before .before .loop-test .taken) (c .before .before .formula-at .ensures), context-short (c .before .before .before .before .before .before .before .pre .1))
+add-at c = omega (arith, standing-inside (c .before .before .before .before .before .before .before .pre .1) (c .before .before .before .before .loop .inv .stands) (c .before .before .before .loop-test .taken) (c .before .before .formula-at .ensures), context-short (c .before .before .before .before .before .before .before .pre .1))
 
 add-i : tie.Need-add-i Inv-loop μ-loop
 add-i c = omega arith
