@@ -13,6 +13,7 @@ use Rattle.calculus.proofs.Finding.{find-lowest}
 use Rattle.calculus.proofs.Growing.{Good, claims, leaves, no-room}
 use Rattle.calculus.proofs.Emitting.{cover-good}
 use Rattle.ledger.specs.Ledger.{stepsOf}
+use Rattle.index.specs.declared.Found.{Found}
 use Rattle.index.specs.declared.Found.the-variants.{At}
 use Rattle.index.specs.Index.{Indexed}
 use Rattle.index.proofs.MarkLaws.{finished-done}
@@ -55,6 +56,7 @@ pub marked-runs : {l : Book} {p : Program} {m x y : List ℕ} {r : Ran} → Runs
 marked-runs {l} {p} {m} {x} {y} {r} h k = record { ends = reindexed l m x y k r (run (within (length (l .bytes))) p (stepsOf (l .bytes))) (h .ends) }
 
 -- A search that is finished: nothing is appended.
-pub settled-runs : {l : Book} → Kept l → (G : List Face) (g : Face) (i : ℕ) → Settled (stepsOf (l .bytes)) G g (At i) → Runs l (emitCover G g) (Done i) l
-settled-runs {l} k G g i s =
-    record { ends = subst (λ (o : Outcome). Ends l o (Done i) l) (sym (s (within (length (l .bytes))))) (refl, record { long = refl; holds = k .led; kept = k }) }
+pub settled-runs : {l : Book} → Kept l → (G : List Face) (g : Face) {f : Found} {i : ℕ} → f ≡ At i → Settled (stepsOf (l .bytes)) G g f → Runs l (emitCover G g) (Done i) l
+settled-runs {l} k G g {i = i} e s =
+    let w : Settled (stepsOf (l .bytes)) G g (At i) = subst (λ (q : Found). Settled (stepsOf (l .bytes)) G g q) e s in
+    record { ends = subst (λ (o : Outcome). Ends l o (Done i) l) (sym (w (within (length (l .bytes))))) (refl, record { long = refl; holds = k .led; kept = k }) }

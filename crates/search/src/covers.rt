@@ -43,6 +43,16 @@ fn finish(l: &[u8], ix: &mut [u32], r: Ran)
     }
 }
 
+// The cover step of a context and a goal, or 9, where the search is not finished yet.
+fn fresh(l: &mut [u8], ix: &mut [u32], n: usize, g: &[u8], goal: &[u8]) -> Ran
+    requires { ⌜ Indexed (now l) (now ix) × Context n (now g) × Known Faces (now goal) ⌝ }
+    ensures { λ r. ⌜ Runs (book (now (l .entry)) (now (ix .entry))) (emitCover (contextOf n (now (g .entry))) (treeOf Faces (now (goal .entry)))) r (book (now (l .exit)) (now (ix .exit))) ⌝ }
+{
+    let r = take_turn(l, ix, n, g, goal);
+    finish(l, ix, r);
+    r
+}
+
 // The cover step of a context and a goal, or 9. A search that this call has finished is not made again: it would append nothing and answer the same.
 pub fn cover(l: &mut [u8], ix: &mut [u32], n: usize, g: &[u8], goal: &[u8]) -> Ran
     requires { ⌜ Indexed (now l) (now ix) × Context n (now g) × Known Faces (now goal) ⌝ }
@@ -50,11 +60,7 @@ pub fn cover(l: &mut [u8], ix: &mut [u32], n: usize, g: &[u8], goal: &[u8]) -> R
 {
     match contexts::finished(l, ix, n, g, goal) {
         Found::At(i) => Ran::Done(i),
-        Found::Absent(_) => {
-            let r = take_turn(l, ix, n, g, goal);
-            finish(l, ix, r);
-            r
-        }
+        Found::Absent(_) => fresh(l, ix, n, g, goal),
     }
 }
 
@@ -92,7 +98,11 @@ fn branch(
 {
     let mut made = [0u8; 1024];
     let k = contexts::leave(front, g, at, end, &mut made);
-    cover(l, ix, m, &made[..k], goal)
+    let c = &made[..k];
+    match contexts::finished(l, ix, m, c, goal) {
+        Found::At(i) => Ran::Done(i),
+        Found::Absent(_) => fresh(l, ix, m, c, goal),
+    }
 }
 
 // The assumption number i, which begins at `at`, is a fand: both parts in its place.

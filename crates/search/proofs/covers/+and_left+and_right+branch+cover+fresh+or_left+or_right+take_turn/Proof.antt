@@ -3,25 +3,28 @@ use borrow.Fn.Kinds.{In}
 use borrow.Fn.PlainCycle.{Measures, is, falls, and}
 use Rattle.search.proofs.covers.and_left.Reads as and-left
 use Rattle.search.proofs.covers.and_left.Kinds as and-left-kinds
-use Rattle.search.proofs.covers.+and_left+and_right+branch+cover+or_left+or_right+take_turn.Lts-and_left as and-left-lts
+use Rattle.search.proofs.covers.+and_left+and_right+branch+cover+fresh+or_left+or_right+take_turn.Lts-and_left as and-left-lts
 use Rattle.search.proofs.covers.and_right.Reads as and-right
 use Rattle.search.proofs.covers.and_right.Kinds as and-right-kinds
-use Rattle.search.proofs.covers.+and_left+and_right+branch+cover+or_left+or_right+take_turn.Lts-and_right as and-right-lts
+use Rattle.search.proofs.covers.+and_left+and_right+branch+cover+fresh+or_left+or_right+take_turn.Lts-and_right as and-right-lts
 use Rattle.search.proofs.covers.branch.Reads as branch
 use Rattle.search.proofs.covers.branch.Kinds as branch-kinds
-use Rattle.search.proofs.covers.+and_left+and_right+branch+cover+or_left+or_right+take_turn.Lts-branch as branch-lts
+use Rattle.search.proofs.covers.+and_left+and_right+branch+cover+fresh+or_left+or_right+take_turn.Lts-branch as branch-lts
 use Rattle.search.proofs.covers.cover.Reads as cover
 use Rattle.search.proofs.covers.cover.Kinds as cover-kinds
-use Rattle.search.proofs.covers.+and_left+and_right+branch+cover+or_left+or_right+take_turn.Lts-cover as cover-lts
+use Rattle.search.proofs.covers.+and_left+and_right+branch+cover+fresh+or_left+or_right+take_turn.Lts-cover as cover-lts
+use Rattle.search.proofs.covers.fresh.Reads as fresh
+use Rattle.search.proofs.covers.fresh.Kinds as fresh-kinds
+use Rattle.search.proofs.covers.+and_left+and_right+branch+cover+fresh+or_left+or_right+take_turn.Lts-fresh as fresh-lts
 use Rattle.search.proofs.covers.or_left.Reads as or-left
 use Rattle.search.proofs.covers.or_left.Kinds as or-left-kinds
-use Rattle.search.proofs.covers.+and_left+and_right+branch+cover+or_left+or_right+take_turn.Lts-or_left as or-left-lts
+use Rattle.search.proofs.covers.+and_left+and_right+branch+cover+fresh+or_left+or_right+take_turn.Lts-or_left as or-left-lts
 use Rattle.search.proofs.covers.or_right.Reads as or-right
 use Rattle.search.proofs.covers.or_right.Kinds as or-right-kinds
-use Rattle.search.proofs.covers.+and_left+and_right+branch+cover+or_left+or_right+take_turn.Lts-or_right as or-right-lts
+use Rattle.search.proofs.covers.+and_left+and_right+branch+cover+fresh+or_left+or_right+take_turn.Lts-or_right as or-right-lts
 use Rattle.search.proofs.covers.take_turn.Reads as take-turn
 use Rattle.search.proofs.covers.take_turn.Kinds as take-turn-kinds
-use Rattle.search.proofs.covers.+and_left+and_right+branch+cover+or_left+or_right+take_turn.Lts-take_turn as take-turn-lts
+use Rattle.search.proofs.covers.+and_left+and_right+branch+cover+fresh+or_left+or_right+take_turn.Lts-take_turn as take-turn-lts
 use Rattle.contexts.proofs.by_absurd.Reads as by-absurd-reads
 use Rattle.contexts.proofs.by_clash.Reads as by-clash-reads
 use Rattle.contexts.proofs.by_member.Reads as by-member-reads
@@ -36,27 +39,21 @@ use Rattle.search.proofs.covers.is_full.Reads as is-full-reads
 use Rattle.search.proofs.turns.next_turn.Reads as next-turn-reads
 use Rattle.steps.proofs.is_done.Reads as is-done-reads
 use Rattle.steps.proofs.step_of.Reads as step-of-reads
-use Rattle.search.proofs.covers.+and_left+and_right+branch+cover+or_left+or_right+take_turn.{
+use Rattle.search.proofs.covers.+and_left+and_right+branch+cover+fresh+or_left+or_right+take_turn.{
   statement,
 }
-use Rattle.search.proofs.covers.+and_left+and_right+branch+cover+or_left+or_right+take_turn.Tie.{
+use Rattle.search.proofs.covers.+and_left+and_right+branch+cover+fresh+or_left+or_right+take_turn.Tie.{
   close,
 }
 use Prim.Native.Nat.{ℕ, _<_, _+_, _-_, _*_}
 use native.Mathlib.Omega.{arith}
 use borrow.Author.Needs.{needs}
 use borrow.Author.Tests.{not-true, not-false}
-use mathlib.Core.Path.{refl, sym, _∙_, subst}
+use mathlib.Core.Path.{refl, sym, _∙_}
 use lib.ListN.{length}
 use lib.Seq.{length-take-le}
 use Rattle.calculus.specs.Rules
 use Rattle.calculus.specs.Emit.{not-implied}
-use Rattle.formula.specs.declared.Sort.the-variants.{Faces}
-use Rattle.formula.specs.Answers.{treeOf}
-use Rattle.ledger.specs.Ledger.{stepsOf}
-use Rattle.index.specs.declared.Found.{Found}
-use Rattle.contexts.specs.Contexts.{contextOf}
-use Rattle.contexts.specs.Moves.{Settled}
 use Rattle.steps.proofs.RunLaws.{runs-led, runs-failure}
 use Rattle.steps.proofs.TreeLaws.{known, is-short}
 use Rattle.contexts.proofs.ContextLaws.{context-as, context-short, context-count}
@@ -68,25 +65,28 @@ use Rattle.search.proofs.SplitLaws.{is-fand, is-for, halves, second-sho
 use Rattle.search.proofs.SearchLaws.{by-turn, made-runs, and-left-stop, and-left-stop-2, and-left-up, or-left-stop, or-left-stop-2, or-left-stop-3, or-left-up, and-right-stop, and-right-stop-2, and-right-up, or-right-up, or-right-full, or-right-stop, or-right-up-2}
 
 abbrev μ-and-left : Measures 4 and-left-kinds.ps ℕ
-μ-and-left κs a = 4 * (length (a .1 .1 .1 .1 .1 .0 .now) + length (a .1 .1 .1 .1 .1 .1 .0 .now)) + 1
+μ-and-left κs a = 5 * (length (a .1 .1 .1 .1 .1 .0 .now) + length (a .1 .1 .1 .1 .1 .1 .0 .now)) + 1
 
 abbrev μ-and-right : Measures 4 and-right-kinds.ps ℕ
-μ-and-right κs a = 4 * (length (a .1 .1 .1 .0 .now) + length (a .1 .1 .1 .1 .0 .now)) + 1
+μ-and-right κs a = 5 * (length (a .1 .1 .1 .0 .now) + length (a .1 .1 .1 .1 .0 .now)) + 1
 
 abbrev μ-branch : Measures 5 branch-kinds.ps ℕ
-μ-branch κs a = 4 * (length (a .1 .1 .0 .now) + a .1 .1 .1 .1 .1 .0 + (length (a .1 .1 .1 .1 .0 .now) - a .1 .1 .1 .1 .1 .1 .0) + length (a .1 .1 .1 .1 .1 .1 .1 .0 .now)) + 4
+μ-branch κs a = 5 * (length (a .1 .1 .0 .now) + a .1 .1 .1 .1 .1 .0 + (length (a .1 .1 .1 .1 .0 .now) - a .1 .1 .1 .1 .1 .1 .0) + length (a .1 .1 .1 .1 .1 .1 .1 .0 .now)) + 4
 
 abbrev μ-cover : Measures 4 cover-kinds.ps ℕ
-μ-cover κs a = 4 * (length (a .1 .1 .1 .0 .now) + length (a .1 .1 .1 .1 .0 .now)) + 3
+μ-cover κs a = 5 * (length (a .1 .1 .1 .0 .now) + length (a .1 .1 .1 .1 .0 .now)) + 4
+
+abbrev μ-fresh : Measures 4 fresh-kinds.ps ℕ
+μ-fresh κs a = 5 * (length (a .1 .1 .1 .0 .now) + length (a .1 .1 .1 .1 .0 .now)) + 3
 
 abbrev μ-or-left : Measures 4 or-left-kinds.ps ℕ
-μ-or-left κs a = 4 * (length (a .1 .1 .1 .1 .1 .0 .now) + length (a .1 .1 .1 .1 .1 .1 .0 .now)) + 1
+μ-or-left κs a = 5 * (length (a .1 .1 .1 .1 .1 .0 .now) + length (a .1 .1 .1 .1 .1 .1 .0 .now)) + 1
 
 abbrev μ-or-right : Measures 4 or-right-kinds.ps ℕ
-μ-or-right κs a = 4 * (length (a .1 .1 .1 .0 .now) + length (a .1 .1 .1 .1 .0 .now)) + 1
+μ-or-right κs a = 5 * (length (a .1 .1 .1 .0 .now) + length (a .1 .1 .1 .1 .0 .now)) + 1
 
 abbrev μ-take-turn : Measures 4 take-turn-kinds.ps ℕ
-μ-take-turn κs a = 4 * (length (a .1 .1 .1 .0 .now) + length (a .1 .1 .1 .1 .0 .now)) + 2
+μ-take-turn κs a = 5 * (length (a .1 .1 .1 .0 .now) + length (a .1 .1 .1 .1 .0 .now)) + 2
 
 abbrev and-left-at : ℕ → In 4 and-left-kinds.ps
 and-left-at t = and 4 and-left-kinds.ps (is 4 and-left-kinds.ps μ-and-left t) and-left.Pre
@@ -113,6 +113,12 @@ cover-at t = and 4 cover-kinds.ps (is 4 cover-kinds.ps μ-cover t) cover.Pre
 
 abbrev cover-below : ℕ → In 4 cover-kinds.ps
 cover-below t = and 4 cover-kinds.ps (falls 4 cover-kinds.ps _<_ μ-cover t) cover.Pre
+
+abbrev fresh-at : ℕ → In 4 fresh-kinds.ps
+fresh-at t = and 4 fresh-kinds.ps (is 4 fresh-kinds.ps μ-fresh t) fresh.Pre
+
+abbrev fresh-below : ℕ → In 4 fresh-kinds.ps
+fresh-below t = and 4 fresh-kinds.ps (falls 4 fresh-kinds.ps _<_ μ-fresh t) fresh.Pre
 
 abbrev or-left-at : ℕ → In 4 or-left-kinds.ps
 or-left-at t = and 4 or-left-kinds.ps (is 4 or-left-kinds.ps μ-or-left t) or-left.Pre
@@ -144,11 +150,15 @@ and-right-claims t = (formula-at-reads.Asked, formula-at-reads.Learnt, cover-bel
 
 -- What branch is told of the functions that it calls.
 abbrev branch-claims : ℕ → branch-lts.Claims
-branch-claims t = (leave-reads.Asked, leave-reads.Learnt, cover-below t, cover.Post)
+branch-claims t = (leave-reads.Asked, leave-reads.Learnt, finished-reads.Asked, finished-reads.Learnt, fresh-below t, fresh.Post)
 
 -- What cover is told of the functions that it calls.
 abbrev cover-claims : ℕ → cover-lts.Claims
-cover-claims t = (finished-reads.Asked, finished-reads.Learnt, take-turn-below t, take-turn.Post, finish-reads.Asked, finish-reads.Learnt)
+cover-claims t = (finished-reads.Asked, finished-reads.Learnt, fresh-below t, fresh.Post)
+
+-- What fresh is told of the functions that it calls.
+abbrev fresh-claims : ℕ → fresh-lts.Claims
+fresh-claims t = (take-turn-below t, take-turn.Post, finish-reads.Asked, finish-reads.Learnt)
 
 -- What or-left is told of the functions that it calls.
 abbrev or-left-claims : ℕ → or-left-lts.Claims
@@ -300,11 +310,20 @@ branch-leave-requires t c κs = let a = c .before .before .before .before .befor
 branch-array-share-prefix-made : (t : ℕ) → branch-lts.Need-array-share-prefix-made (branch-claims t) (branch-at t) branch.Post
 branch-array-share-prefix-made t c = search needs
 
-branch-slice-aggregate-cover : (t : ℕ) → branch-lts.Need-slice-aggregate-cover (branch-claims t) (branch-at t) branch.Post
-branch-slice-aggregate-cover t c = sym (length-take-le _ _ (c .before .before .before .before .leave .ensures .0))
+branch-slice-aggregate-c : (t : ℕ) → branch-lts.Need-slice-aggregate-c (branch-claims t) (branch-at t) branch.Post
+branch-slice-aggregate-c t c = sym (length-take-le _ _ (c .before .before .leave .ensures .0))
 
-branch-cover-requires : (t : ℕ) → branch-lts.Need-cover-requires (branch-claims t) (branch-at t) branch.Post
-branch-cover-requires t c κs = let a = c .before .before .before .before .before .before .before .before .before .before .before .args in (omega (arith, c .before .before .before .before .before .before .before .before .before .before .before .pre .0, made-length (a .front .now) (a .g .now) (a .at) (a .end) (c .before .before .before .before .leave .ensures .1) (c .before .before .before .before .before .before .before .before .before .before .before .pre .1 .1) (c .before .before .before .before .before .before .before .before .before .before .before .pre .1 .2)), (c .before .before .before .before .before .before .before .before .before .before .before .pre .1 .0, made-context (a .front .now) (a .g .now) (a .at) (a .end) (c .before .before .before .before .leave .ensures .1) (c .before .before .before .before .before .before .before .before .before .before .before .pre .1 .3), c .before .before .before .before .before .before .before .before .before .before .before .pre .1 .4))
+branch-finished-requires : (t : ℕ) → branch-lts.Need-finished-requires (branch-claims t) (branch-at t) branch.Post
+branch-finished-requires t c κs = let a = c .before .before .before .before .before .before .before .before .before .before .before .args in (c .before .before .before .before .before .before .before .before .before .before .before .pre .1 .0, made-context (a .front .now) (a .g .now) (a .at) (a .end) (c .before .before .before .before .leave .ensures .1) (c .before .before .before .before .before .before .before .before .before .before .before .pre .1 .3), c .before .before .before .before .before .before .before .before .before .before .before .pre .1 .4)
+
+branch-enum-known-i : (t : ℕ) → branch-lts.Need-enum-known-i (branch-claims t) (branch-at t) branch.Post
+branch-enum-known-i t c = search needs
+
+branch-enum-told : (t : ℕ) → branch-lts.Need-enum-told (branch-claims t) (branch-at t) branch.Post
+branch-enum-told t c = search needs
+
+branch-fresh-requires : (t : ℕ) → branch-lts.Need-fresh-requires (branch-claims t) (branch-at t) branch.Post
+branch-fresh-requires t c κs = let a = c .before .before .before .before .before .before .before .before .before .before .before .before .before .before .before .before .args in (omega (arith, c .before .before .before .before .before .before .before .before .before .before .before .before .before .before .before .before .pre .0, made-length (a .front .now) (a .g .now) (a .at) (a .end) (c .before .before .before .before .before .before .before .before .before .leave .ensures .1) (c .before .before .before .before .before .before .before .before .before .before .before .before .before .before .before .before .pre .1 .1) (c .before .before .before .before .before .before .before .before .before .before .before .before .before .before .before .before .pre .1 .2)), (c .before .before .before .before .before .before .before .before .before .before .before .before .before .before .before .before .pre .1 .0, made-context (a .front .now) (a .g .now) (a .at) (a .end) (c .before .before .before .before .before .before .before .before .before .leave .ensures .1) (c .before .before .before .before .before .before .before .before .before .before .before .before .before .before .before .before .pre .1 .3), c .before .before .before .before .before .before .before .before .before .before .before .before .before .before .before .before .pre .1 .4))
 
 branch-same-length : (t : ℕ) → branch-lts.Need-same-length (branch-claims t) (branch-at t) branch.Post
 branch-same-length t c = search needs
@@ -313,7 +332,16 @@ branch-same-length-2 : (t : ℕ) → branch-lts.Need-same-length-2 (branch-claim
 branch-same-length-2 t c = search needs
 
 branch-returns : (t : ℕ) → branch-lts.Need-returns (branch-claims t) (branch-at t) branch.Post
-branch-returns t c = made-runs _ _ (c .before .before .before .before .before .before .before .before .before .leave .ensures .1) (c .before .before .before .before .cover .ensures)
+branch-returns t c = made-runs _ _ (c .before .before .before .before .before .before .before .before .leave .ensures .1) (settled-runs (c .before .before .before .before .before .before .before .before .before .before .before .before .before .before .before .pre .1 .0) _ _ (c .before .i .given .1) (c .before .before .before .finished .ensures))
+
+branch-same-length-3 : (t : ℕ) → branch-lts.Need-same-length-3 (branch-claims t) (branch-at t) branch.Post
+branch-same-length-3 t c = search needs
+
+branch-same-length-4 : (t : ℕ) → branch-lts.Need-same-length-4 (branch-claims t) (branch-at t) branch.Post
+branch-same-length-4 t c = search needs
+
+branch-returns-2 : (t : ℕ) → branch-lts.Need-returns-2 (branch-claims t) (branch-at t) branch.Post
+branch-returns-2 t c = made-runs _ _ (c .before .before .before .before .before .before .before .before .before .before .before .before .before .before .leave .ensures .1) (c .before .before .before .before .fresh .ensures)
 
 cover-finished-requires : (t : ℕ) → cover-lts.Need-finished-requires (cover-claims t) (cover-at t) cover.Post
 cover-finished-requires t c κs = (c .before .before .before .before .before .before .pre .1 .0, c .before .before .before .before .before .before .pre .1 .1, c .before .before .before .before .before .before .pre .1 .2)
@@ -324,11 +352,8 @@ cover-enum-known-i t c = search needs
 cover-enum-told : (t : ℕ) → cover-lts.Need-enum-told (cover-claims t) (cover-at t) cover.Post
 cover-enum-told t c = search needs
 
-cover-take-turn-requires : (t : ℕ) → cover-lts.Need-take-turn-requires (cover-claims t) (cover-at t) cover.Post
-cover-take-turn-requires t c κs = (omega (arith, c .before .before .before .before .before .before .before .before .before .before .before .pre .0), (c .before .before .before .before .before .before .before .before .before .before .before .pre .1 .0, c .before .before .before .before .before .before .before .before .before .before .before .pre .1 .1, c .before .before .before .before .before .before .before .before .before .before .before .pre .1 .2))
-
-cover-finish-requires : (t : ℕ) → cover-lts.Need-finish-requires (cover-claims t) (cover-at t) cover.Post
-cover-finish-requires t c κs = (runs-led (c .before .before .before .before .before .before .take-turn .ensures), ended (c .before .before .before .before .before .before .before .before .before .before .before .before .before .before .before .before .before .before .pre .1 .1) (c .before .before .before .before .before .before .before .before .before .before .before .before .before .before .before .before .before .before .pre .1 .2) (c .before .before .before .before .before .before .take-turn .ensures))
+cover-fresh-requires : (t : ℕ) → cover-lts.Need-fresh-requires (cover-claims t) (cover-at t) cover.Post
+cover-fresh-requires t c κs = (omega (arith, c .before .before .before .before .before .before .before .before .before .before .before .pre .0), (c .before .before .before .before .before .before .before .before .before .before .before .pre .1 .0, c .before .before .before .before .before .before .before .before .before .before .before .pre .1 .1, c .before .before .before .before .before .before .before .before .before .before .before .pre .1 .2))
 
 cover-same-length : (t : ℕ) → cover-lts.Need-same-length (cover-claims t) (cover-at t) cover.Post
 cover-same-length t c = search needs
@@ -337,11 +362,7 @@ cover-same-length-2 : (t : ℕ) → cover-lts.Need-same-length-2 (cover-claims t
 cover-same-length-2 t c = search needs
 
 cover-returns : (t : ℕ) → cover-lts.Need-returns (cover-claims t) (cover-at t) cover.Post
-cover-returns t c = let a = c .before .before .before .before .before .before .before .before .before .before .args in
-    let L = stepsOf (a .l .now) in
-    let G = contextOf (a .n) (a .g .now) in
-    let g = treeOf Faces (a .goal .now) in
-    settled-runs (c .before .before .before .before .before .before .before .before .before .before .pre .1 .0) G g _ (subst (λ (r : Found). Settled L G g r) (c .before .i .given .1) (c .before .before .before .finished .ensures))
+cover-returns t c = settled-runs (c .before .before .before .before .before .before .before .before .before .before .pre .1 .0) _ _ (c .before .i .given .1) (c .before .before .before .finished .ensures)
 
 cover-same-length-3 : (t : ℕ) → cover-lts.Need-same-length-3 (cover-claims t) (cover-at t) cover.Post
 cover-same-length-3 t c = search needs
@@ -350,7 +371,22 @@ cover-same-length-4 : (t : ℕ) → cover-lts.Need-same-length-4 (cover-claims t
 cover-same-length-4 t c = search needs
 
 cover-returns-2 : (t : ℕ) → cover-lts.Need-returns-2 (cover-claims t) (cover-at t) cover.Post
-cover-returns-2 t c = marked-runs (c .before .before .before .before .before .before .before .before .before .take-turn .ensures) (c .before .before .finish .ensures)
+cover-returns-2 t c = c .before .before .before .before .fresh .ensures
+
+fresh-take-turn-requires : (t : ℕ) → fresh-lts.Need-take-turn-requires (fresh-claims t) (fresh-at t) fresh.Post
+fresh-take-turn-requires t c κs = (omega (arith, c .before .before .before .before .before .before .pre .0), (c .before .before .before .before .before .before .pre .1 .0, c .before .before .before .before .before .before .pre .1 .1, c .before .before .before .before .before .before .pre .1 .2))
+
+fresh-finish-requires : (t : ℕ) → fresh-lts.Need-finish-requires (fresh-claims t) (fresh-at t) fresh.Post
+fresh-finish-requires t c κs = (runs-led (c .before .before .before .before .before .before .take-turn .ensures), ended (c .before .before .before .before .before .before .before .before .before .before .before .before .before .pre .1 .1) (c .before .before .before .before .before .before .before .before .before .before .before .before .before .pre .1 .2) (c .before .before .before .before .before .before .take-turn .ensures))
+
+fresh-same-length : (t : ℕ) → fresh-lts.Need-same-length (fresh-claims t) (fresh-at t) fresh.Post
+fresh-same-length t c = search needs
+
+fresh-same-length-2 : (t : ℕ) → fresh-lts.Need-same-length-2 (fresh-claims t) (fresh-at t) fresh.Post
+fresh-same-length-2 t c = search needs
+
+fresh-returns : (t : ℕ) → fresh-lts.Need-returns (fresh-claims t) (fresh-at t) fresh.Post
+fresh-returns t c = marked-runs (c .before .before .before .before .before .before .before .before .before .take-turn .ensures) (c .before .before .finish .ensures)
 
 or-left-formula-at-requires : (t : ℕ) → or-left-lts.Need-formula-at-requires (or-left-claims t) (or-left-at t) or-left.Post
 or-left-formula-at-requires t c κs = tt
@@ -646,13 +682,15 @@ take-turn-returns-8 t c = by-turn (c .before .before .before .before .before .be
 take-turn-returns-9 : (t : ℕ) → take-turn-lts.Need-returns-9 (take-turn-claims t) (take-turn-at t) take-turn.Post
 take-turn-returns-9 t c = by-turn (c .before .before .next-turn .ensures) (told (c .before .before .next-turn .ensures) (c .enum-told6 .given .1)) (runs-failure (c .before .before .before .before .before .before .before .pre .1 .0) not-implied)
 
-pub +and-left+and-right+branch+cover+or-left+or-right+take-turn-spec : {M : Type 1} → statement M
-+and-left+and-right+branch+cover+or-left+or-right+take-turn-spec =
+pub +and-left+and-right+branch+cover+fresh+or-left+or-right+take-turn-spec :
+    {M : Type 1} → statement M
++and-left+and-right+branch+cover+fresh+or-left+or-right+take-turn-spec =
     close
     μ-and-left
     μ-and-right
     μ-branch
     μ-cover
+    μ-fresh
     μ-or-left
     μ-or-right
     μ-take-turn
@@ -701,30 +739,41 @@ pub +and-left+and-right+branch+cover+or-left+or-right+take-turn-spec : {M : Type
     (and-right-same-length-5 t)
     (and-right-same-length-6 t)
     (and-right-returns-3 t))
-    (λ t. branch-lts.spec
-    (leave-reads.Asked, leave-reads.Learnt, cover-below t, cover.Post)
-    (branch-at t)
-    branch.Post
+    (λ t. branch-lts.spec (branch-claims t) (branch-at t) branch.Post
     (branch-slice-aggregate-leave t)
     (branch-leave-requires t)
     (branch-array-share-prefix-made t)
-    (branch-slice-aggregate-cover t)
-    (branch-cover-requires t)
+    (branch-slice-aggregate-c t)
+    (branch-finished-requires t)
+    (branch-enum-known-i t)
+    (branch-enum-told t)
+    (branch-fresh-requires t)
     (branch-same-length t)
     (branch-same-length-2 t)
-    (branch-returns t))
-    (λ t. cover-lts.spec (cover-claims t) (cover-at t) cover.Post
+    (branch-returns t)
+    (branch-same-length-3 t)
+    (branch-same-length-4 t)
+    (branch-returns-2 t))
+    (λ t. cover-lts.spec
+    (finished-reads.Asked, finished-reads.Learnt, fresh-below t, fresh.Post)
+    (cover-at t)
+    cover.Post
     (cover-finished-requires t)
     (cover-enum-known-i t)
     (cover-enum-told t)
-    (cover-take-turn-requires t)
-    (cover-finish-requires t)
+    (cover-fresh-requires t)
     (cover-same-length t)
     (cover-same-length-2 t)
     (cover-returns t)
     (cover-same-length-3 t)
     (cover-same-length-4 t)
     (cover-returns-2 t))
+    (λ t. fresh-lts.spec (fresh-claims t) (fresh-at t) fresh.Post
+    (fresh-take-turn-requires t)
+    (fresh-finish-requires t)
+    (fresh-same-length t)
+    (fresh-same-length-2 t)
+    (fresh-returns t))
     (λ t. or-left-lts.spec (or-left-claims t) (or-left-at t) or-left.Post
     (or-left-formula-at-requires t)
     (or-left-left-out-requires t)
