@@ -1,19 +1,20 @@
 -- The emitter of boundary.
-use Prim.Native.Nat.{ℕ, _+_}
+use Prim.Native.Nat.{ℕ, _+_, _-_}
 use native.Mathlib.Omega.{arith}
 use mathlib.Core.Path.{_≡_, refl, sym, ap, ap₂, _∙_, subst}
 use mathlib.Core.List.{List, [], _∷_, _++_}
 use lib.ListN.{length, getD, drop}
 use Rattle.formula.specs.declared.Sort.the-variants.{Faces, Intervals}
-use Rattle.formula.specs.declared.Step.the-variants.{Lit, One, Two}
+use Rattle.formula.specs.declared.Step.the-variants.{Lit, One}
 use Rattle.formula.specs.declared.Place.{Place}
-use Rattle.formula.specs.Formula.{End, lo, hi, other, Interval}
+use Rattle.formula.specs.Formula.{End, lo, hi, other, Face, Interval}
 use Rattle.formula.specs.Operations.{boundary}
 use Rattle.formula.specs.Bytes.{encode, encodeFace, nodesFace, boundFace}
-use Rattle.formula.specs.Answers.{partAt, treeOf}
+use Rattle.formula.specs.declared.Size.{Size}
+use Rattle.formula.specs.Answers.{treeOf}
 use Rattle.formula.proofs.Nodes.{EachNode}
 use Rattle.formula.proofs.Meaning.{boundary-neg}
-use Rattle.operations.proofs.ResultLaws.{boundary-smaller}
+use Rattle.operations.proofs.ResultLaws.{boundary-sizes, boundary-smaller}
 use Rattle.calculus.specs.Rules
 use Rattle.calculus.specs.Record.{operandBytes}
 use Rattle.calculus.specs.Rules.{Rule}
@@ -21,13 +22,17 @@ use Rattle.calculus.specs.Emit.{Program, emit}
 use Rattle.calculus.specs.Calls.{bounds, emitBoundary}
 use Rattle.calculus.proofs.Growing.{Limited}
 use Rattle.steps.specs.declared.Ran.{Ran}
+use Rattle.steps.specs.declared.Paired.{Paired}
 use Rattle.steps.specs.Running.{Book, Runs, Emits}
 use Rattle.steps.specs.Trees.{Is, Known}
-use Rattle.boundary_steps.specs.Programs.{Sides, boundaryKind}
+use Rattle.steps.specs.Walking.{StandsAt, treeAt, KnownAt, behindAt, span, Spans, insideOf, WalksBoth}
+use Rattle.boundary_steps.specs.Programs.{Sides, SidesAt, boundaryKind}
 use Rattle.steps.proofs.RunLaws.{emits-by}
 use Rattle.steps.proofs.TreeLaws.{View, a-lit, a-one, tree-of}
-use Rattle.steps.proofs.NodeLaws.{Law, AtLit, AtOne, AtTwo, at-lit, at-one, behind}
-use Rattle.steps.proofs.ResultLaws.{Cut, Pairs, result-cut}
+use Rattle.steps.proofs.NodeLaws.{Law, AtLit, AtOne, AtTwo, at-lit, at-one}
+use Rattle.steps.proofs.ResultLaws.{Pairs}
+use Rattle.steps.proofs.PlaceLaws.{start, whole-at, whole-part, at-spans, between-part, EndAt, OneAt, TwoAt}
+use Rattle.steps.proofs.WalkLaws.{by-part, image-two, left-image, right-image, image-end, Beside, Ended}
 
 -- The program and the rule at each kind byte.
 pub boundary-laws : EachNode Intervals (Law Intervals emitBoundary bounds boundaryKind)
@@ -65,15 +70,6 @@ side-is {r} e h i =
     let z = boundary-smaller e (treeOf Intervals r) in
     record { bytes = i; few = omega (arith, z .nodes, h .few); low = omega (arith, z .bound, h .low) }
 
-pub bounds-limited : {r zero one : List ℕ} → Known Intervals r → Sides r zero one → Limited (bounds (treeOf Intervals r))
-bounds-limited h s =
-    let z = side-is lo h (s .zeros) in
-    let o = side-is hi h (s .ones) in
-    ((h .few, h .low), ((z .few, z .low), ((o .few, o .low), tt)))
-
-pub bounds-bytes : {r zero one : List ℕ} → Known Intervals r → Sides r zero one → operandBytes (bounds (treeOf Intervals r)) ≡ r ++ (zero ++ one)
-bounds-bytes h s = sym (ap₂ (λ (x y : List ℕ). x ++ y) (h .bytes) (ap₂ (λ (x y : List ℕ). x ++ y) (s .zeros) (s .ones)))
-
 -- The faces of the parts: under neg they change places.
 Swaps : ℕ → (Interval → Interval) → Type 0
 Swaps b u = (e : End) (x : Interval) → boundary e (u x) ≡ boundary (other e) x
@@ -82,30 +78,59 @@ swaps : EachNode Intervals (AtOne Intervals Swaps)
 unfolding Swaps
 swaps = record { at0 = tt; at1 = tt; at2 = tt; at3 = boundary-neg; at4 = tt; at5 = tt; none = λ b. tt }
 
-side-one : {r l : List ℕ} {q : Place} (e : End) (t : Interval) → View Intervals r t (One q) → l ≡ encode Faces (boundary e t) → l ≡ encode Faces (boundary (other e) (treeOf Intervals (drop 1 r)))
+swap-by : {x : List ℕ} {q : Place} (e : End) (t : Interval) → View Intervals x t (One q) → boundary e t ≡ boundary (other e) (treeOf Intervals (drop 1 x))
 unfolding Swaps
-side-one e t (a-one b u x i g h) j = j ∙ ap (encode Faces) (at-one Intervals Swaps swaps b u i e x ∙ ap (boundary (other e)) (sym (tree-of h)))
-
-pub sides-one : {r r′ zero one : List ℕ} {q : Place} → View Intervals r (treeOf Intervals r) (One q) → Sides r zero one → r′ ≡ drop 1 r → Sides r′ one zero
-sides-one {r} {zero = zero} {one} v s e =
-    subst (λ (x : List ℕ). Sides x one zero) (sym e) (record { zeros = side-one hi (treeOf Intervals r) v (s .ones); ones = side-one lo (treeOf Intervals r) v (s .zeros) })
+swap-by e t (a-one b u x i g h) = at-one Intervals Swaps swaps b u i e x ∙ ap (boundary (other e)) (sym (tree-of h))
 
 side-two : (e : End) → EachNode Intervals (AtTwo Intervals (Pairs Intervals Faces (boundary e)))
 unfolding boundary encodeFace nodesFace boundFace
 side-two lo = record { at0 = tt; at1 = tt; at2 = tt; at3 = tt; at4 = λ x y. record { byte = 5; made = record { bytes = refl; count = refl; top = refl } }; at5 = λ x y. record { byte = 4; made = record { bytes = refl; count = refl; top = refl } }; none = λ b. tt }
 side-two hi = record { at0 = tt; at1 = tt; at2 = tt; at3 = tt; at4 = λ x y. record { byte = 4; made = record { bytes = refl; count = refl; top = refl } }; at5 = λ x y. record { byte = 5; made = record { bytes = refl; count = refl; top = refl } }; none = λ b. tt }
 
-module _ {r zero one : List ℕ} {q : Place} (v : View Intervals r (treeOf Intervals r) (Two q)) (s : Sides r zero one) where
-  pub cut0 : Cut Faces zero (boundary lo (treeOf Intervals (partAt Intervals r 1))) (boundary lo (treeOf Intervals (drop (1 + length (partAt Intervals r 1)) r)))
-  cut0 = result-cut Intervals Faces (boundary lo) (side-two lo) (treeOf Intervals r) v (s .zeros)
+-- Both faces end at one place.
+pub same-end : {t : Interval} {zero one : List ℕ} {q : Place} → SidesAt t zero one q → behindAt Faces zero q ≡ behindAt Faces one q
+same-end {t} {q = q} h =
+    ap (λ (n : ℕ). record { at = q .at + n; pending = q .pending - 1 }) (ap length (h .zeros .is .bytes) ∙ ap (λ (z : Size). z .len) (boundary-sizes lo hi t) ∙ sym (ap length (h .ones .is .bytes)))
 
-  pub cut1 : Cut Faces one (boundary hi (treeOf Intervals (partAt Intervals r 1))) (boundary hi (treeOf Intervals (drop (1 + length (partAt Intervals r 1)) r)))
-  cut1 = result-cut Intervals Faces (boundary hi) (side-two hi) (treeOf Intervals r) v (s .ones)
+module _ {r zero one : List ℕ} {p q : Place} (k : KnownAt Intervals r p) (h : SidesAt (treeAt Intervals r p) zero one q) where
+  -- The expression at p, beside its faces at q.
+  pub beside : Beside Intervals emitBoundary bounds boundaryKind (λ x n. x ++ (span (q .at) n zero ++ span (q .at) n one)) r p (behindAt Faces zero q)
+  beside =
+      record {
+        laws = boundary-laws;
+        known = k;
+        limited = ((k .is .few, k .is .low), ((h .zeros .is .few, h .zeros .is .low), ((h .ones .is .few, h .ones .is .low), tt)));
+        operands = λ x n e i. sym (ap₂ (λ (y z : List ℕ). y ++ z) (e ∙ k .is .bytes) (ap₂ (λ (y z : List ℕ). y ++ z) (between-part (h .zeros) refl i ∙ h .zeros .is .bytes) (between-part (h .ones) refl (i ∙ same-end h) ∙ h .ones .is .bytes)));
+      }
 
-  pub sides-left : {x x0 x1 : List ℕ} → x ≡ partAt Intervals r 1 → x0 ≡ partAt Faces zero 1 → x1 ≡ partAt Faces one 1 → Sides x x0 x1
-  sides-left {x0 = x0} {x1} e i j = subst (λ (y : List ℕ). Sides y x0 x1) (sym e) (record { zeros = i ∙ cut0 .left; ones = j ∙ cut1 .left })
+  pub ends-span : {n : Place} → n ≡ behindAt Faces zero q → Spans zero (q .at) n × Spans one (q .at) n
+  ends-span i = (at-spans (h .zeros) i, at-spans (h .ones) (i ∙ same-end h))
 
-  pub sides-right : {x x0 x1 y y0 y1 : List ℕ} → x ≡ partAt Intervals r 1 → x0 ≡ partAt Faces zero 1 → x1 ≡ partAt Faces one 1
-      → y ≡ drop (1 + length x) r → y0 ≡ drop (1 + length x0) zero → y1 ≡ drop (1 + length x1) one → Sides y y0 y1
-  sides-right {y0 = y0} {y1} e i j a b c =
-      subst (λ (w : List ℕ). Sides w y0 y1) (sym (a ∙ behind r e)) (record { zeros = b ∙ behind zero i ∙ cut0 .right; ones = c ∙ behind one j ∙ cut1 .right })
+  -- A dimension is emitted as a leaf is.
+  pub lit-both : {l l′ : Book} {x : Paired} {i j m : ℕ} {e n : Place} → EndAt Intervals (treeAt Intervals r p) r p e (Lit e m) → n ≡ behindAt Faces zero q → Ended beside l i j e n x l′
+      → WalksBoth l (emitBoundary (treeAt Intervals r p)) (behindAt Intervals r p) (behindAt Faces zero q) x l′
+  lit-both {e = e} {n} v g w =
+      let y = between-part k refl (v .end) in
+      record { runs = lit-runs (treeAt Intervals r p) (v .view) (beside .limited) (beside .operands (span (p .at) e r) n y g) (by-part boundaryKind y (w .0)); moved = λ z. (w .1 ∙ v .end, w .2 ∙ g) }
+
+  swapped : {m : Place} (e : End) → OneAt Intervals (treeAt Intervals r p) r p m → boundary e (treeAt Intervals r p) ≡ boundary (other e) (treeAt Intervals r m)
+  swapped e v = swap-by e (treeAt Intervals r p) (v .view) ∙ ap (λ (y : List ℕ). boundary (other e) (treeOf Intervals y)) (sym (v .part))
+
+  pub sides-below : {m : Place} → OneAt Intervals (treeAt Intervals r p) r p m → SidesAt (treeAt Intervals r m) one zero q
+  sides-below v = record { zeros = subst (λ (f : Face). StandsAt Faces f one q) (swapped hi v) (h .ones); ones = subst (λ (f : Face). StandsAt Faces f zero q) (swapped lo v) (h .zeros) }
+
+  module _ {w m : Place} (v : TwoAt Intervals (treeAt Intervals r p) r p m) (i : w ≡ insideOf q) where
+    pub sides-left : SidesAt (treeAt Intervals r m) zero one w
+    sides-left = record { zeros = left-image (image-two Intervals Faces (boundary lo) (side-two lo) v refl (h .zeros)) i; ones = left-image (image-two Intervals Faces (boundary hi) (side-two hi) v refl (h .ones)) i }
+
+    module _ {o n : Place} (e : o ≡ behindAt Intervals r m) (j : n ≡ behindAt Faces zero w) where
+      pub sides-right : SidesAt (treeAt Intervals r o) zero one n
+      sides-right = record { zeros = right-image (image-two Intervals Faces (boundary lo) (side-two lo) v e (h .zeros)) i j; ones = right-image (image-two Intervals Faces (boundary hi) (side-two hi) v e (h .ones)) i (j ∙ same-end sides-left) }
+
+      pub sides-end : behindAt Faces zero n ≡ behindAt Faces zero q
+      sides-end = image-end (image-two Intervals Faces (boundary lo) (side-two lo) v e (h .zeros)) i j
+
+-- Both faces of a whole expression, from their starts.
+pub sides-start : {r zero one : List ℕ} → Known Intervals r → Sides r zero one → SidesAt (treeAt Intervals r start) zero one start
+sides-start {r} {zero} {one} k h =
+    subst (λ (x : List ℕ). SidesAt (treeOf Intervals x) zero one start) (sym (whole-part k)) (record { zeros = whole-at (side-is lo k (h .zeros)); ones = whole-at (side-is hi k (h .ones)) })

@@ -2,6 +2,7 @@
 use formula::Place;
 use formula::Sort;
 use formula::Step;
+use steps::Paired;
 use steps::Ran;
 ghost use mathlib.Core.Path.{_≡_};
 ghost use mathlib.Core.List.{[], _∷_, _++_};
@@ -12,7 +13,8 @@ ghost use Rattle.index.specs.Index.{Indexed};
 ghost use Rattle.steps.specs.Running.{book, Runs, Emits};
 ghost use Rattle.formula.specs.Answers.{treeOf};
 ghost use Rattle.steps.specs.Trees.{Known};
-ghost use Rattle.boundary_steps.specs.Programs.{Sides, boundaryKind};
+ghost use Rattle.steps.specs.Walking.{treeAt, KnownAt, behindAt, span, Spans, WalksBoth};
+ghost use Rattle.boundary_steps.specs.Programs.{Sides, SidesAt, boundaryKind};
 
 // The kind of the rule for an expression that begins with this byte.
 fn boundary_kind(b: u8) -> usize
@@ -38,42 +40,91 @@ fn boundary_whole(
     steps::emit3(l, ix, kind, [i, k, 0], r, zero, one)
 }
 
-// The steps of an expression and its parts; under neg the two faces change places.
+// The step of the expression between `at` and `end`, whose faces stand between `from` and `last`, from those of its parts.
+fn boundary_end(
+    l: &mut [u8],
+    ix: &mut [u32],
+    r: &[u8],
+    at: usize,
+    end: Place,
+    zero: &[u8],
+    one: &[u8],
+    from: usize,
+    last: Place,
+    i: usize,
+    k: usize,
+) -> Paired
+    requires { ⌜ Indexed (now l) (now ix) × Spans (now r) at end × Spans (now zero) from last × Spans (now one) from last ⌝ }
+    ensures { λ x. ⌜ Emits (book (now (l .entry)) (now (ix .entry))) (boundaryKind (getD (span at end (now (r .entry))) 0 0)) (i ∷ k ∷ 0 ∷ []) (span at end (now (r .entry)) ++ (span from last (now (zero .entry)) ++ span from last (now (one .entry)))) (x .ran) (book (now (l .exit)) (now (ix .exit))) × (x .place ≡ end) × (x .image ≡ last) ⌝ }
+{
+    let a = steps::between(r, at, end);
+    let z = steps::between(zero, from, last);
+    let o = steps::between(one, from, last);
+    Paired {
+        ran: boundary_whole(l, ix, a, z, o, i, k),
+        place: end,
+        image: last,
+    }
+}
+
+// The steps of the expression at p and of its parts, beside the two faces at q, which are of one length; under neg they change places.
+fn boundary_at(
+    l: &mut [u8],
+    ix: &mut [u32],
+    r: &[u8],
+    p: Place,
+    zero: &[u8],
+    one: &[u8],
+    q: Place,
+) -> Paired
+    requires { ⌜ Indexed (now l) (now ix) × KnownAt Sort.Intervals (now r) p × SidesAt (treeAt Sort.Intervals (now r) p) (now zero) (now one) q ⌝ }
+    ensures { λ x. ⌜ WalksBoth (book (now (l .entry)) (now (ix .entry))) (emitBoundary (treeAt Sort.Intervals (now (r .entry)) p)) (behindAt Sort.Intervals (now (r .entry)) p) (behindAt Sort.Faces (now (zero .entry)) q) x (book (now (l .exit)) (now (ix .exit))) ⌝ }
+{
+    let at = p.at;
+    let from = q.at;
+    match p.step(Sort::Intervals, r) {
+        Step::Leaf(e) => {
+            let w = steps::over(Sort::Faces, zero, q);
+            boundary_end(l, ix, r, at, e, zero, one, from, w, 0, 0)
+        }
+        Step::Lit(e, _) => {
+            let w = steps::over(Sort::Faces, zero, q);
+            boundary_end(l, ix, r, at, e, zero, one, from, w, 0, 0)
+        }
+        Step::One(e) => {
+            let a = boundary_at(l, ix, r, e, one, zero, q);
+            let under = a.ran;
+            if !steps::is_done(under) {
+                return a;
+            }
+            let i = steps::step_of(under);
+            boundary_end(l, ix, r, at, a.place, zero, one, from, a.image, i, 0)
+        }
+        Step::Two(e) => {
+            let a = boundary_at(l, ix, r, e, zero, one, steps::inside(zero, q));
+            let left = a.ran;
+            if !steps::is_done(left) {
+                return a;
+            }
+            let b = boundary_at(l, ix, r, a.place, zero, one, a.image);
+            let right = b.ran;
+            if !steps::is_done(right) {
+                return b;
+            }
+            let i = steps::step_of(left);
+            let k = steps::step_of(right);
+            boundary_end(l, ix, r, at, b.place, zero, one, from, b.image, i, k)
+        }
+        Step::Stuck => steps::nowhere(p, q),
+    }
+}
+
+// The steps of an expression and its parts.
 pub fn boundary(l: &mut [u8], ix: &mut [u32], r: &[u8], zero: &[u8], one: &[u8]) -> Ran
     requires { ⌜ Indexed (now l) (now ix) × Known Sort.Intervals (now r) × Sides (now r) (now zero) (now one) ⌝ }
     ensures { λ x. ⌜ Runs (book (now (l .entry)) (now (ix .entry))) (emitBoundary (treeOf Sort.Intervals (now (r .entry)))) x (book (now (l .exit)) (now (ix .exit))) ⌝ }
 {
-    let first = Place { at: 0, pending: 1 };
-    match first.step(Sort::Intervals, r) {
-        Step::Leaf(_) => boundary_whole(l, ix, r, zero, one, 0, 0),
-        Step::Lit(_, _) => boundary_whole(l, ix, r, zero, one, 0, 0),
-        Step::One(_) => {
-            let a = boundary(l, ix, &r[1..], one, zero);
-            if !steps::is_done(a) {
-                return a;
-            }
-            boundary_whole(l, ix, r, zero, one, steps::step_of(a), 0)
-        }
-        Step::Two(_) => {
-            let x = formula::formula_at(Sort::Intervals, r, 1);
-            let x0 = formula::formula_at(Sort::Faces, zero, 1);
-            let x1 = formula::formula_at(Sort::Faces, one, 1);
-            let a = boundary(l, ix, x, x0, x1);
-            if !steps::is_done(a) {
-                return a;
-            }
-            let b = boundary(
-                l,
-                ix,
-                steps::behind(r, x.len()),
-                steps::behind(zero, x0.len()),
-                steps::behind(one, x1.len()),
-            );
-            if !steps::is_done(b) {
-                return b;
-            }
-            boundary_whole(l, ix, r, zero, one, steps::step_of(a), steps::step_of(b))
-        }
-        Step::Stuck => Ran::Full,
-    }
+    let p = Place { at: 0, pending: 1 };
+    let x = boundary_at(l, ix, r, p, zero, one, p);
+    x.ran
 }

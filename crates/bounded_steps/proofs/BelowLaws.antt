@@ -7,7 +7,7 @@ use mathlib.Core.List.{List, [], _∷_, _++_}
 use lib.ListN.{getD}
 use Rattle.formula.specs.declared.Sort.{Sort}
 use Rattle.formula.specs.declared.Sort.the-variants.{Faces, Intervals}
-use Rattle.formula.specs.declared.Step.the-variants.{Lit}
+use Rattle.formula.specs.declared.Step.the-variants.{Leaf, Lit}
 use Rattle.formula.specs.declared.Place.{Place}
 use Rattle.formula.specs.Formula.{Face, Interval, dim}
 use Rattle.formula.specs.Bytes.{Tree, dimBytes, encodeInterval, nodesInterval, boundInterval, lit, nodeOf}
@@ -20,13 +20,17 @@ use Rattle.calculus.specs.Emit.{Program, emit, _>>=_}
 use Rattle.calculus.specs.Calls.{less, emitComparison, emitInterval, emitFace}
 use Rattle.calculus.proofs.Growing.{Limited}
 use Rattle.steps.specs.declared.Ran.{Ran}
+use Rattle.steps.specs.declared.Walked.{Walked}
+use Rattle.steps.specs.Walking.{treeAt, KnownAt, behindAt, span, Walks}
+use Rattle.steps.proofs.PlaceLaws.{between-part, EndAt, OneAt, TwoAt}
+use Rattle.steps.proofs.WalkLaws.{not-both, leaf-at, one-at-stop, one-at-runs, two-at-stop, two-at-stop-right, two-at-runs, two-end}
 use Rattle.steps.specs.Running.{Book, doneBy, stepBy, Runs, Emits}
 use Rattle.steps.specs.Trees.{Is, Known, Literal}
-use Rattle.formula.specs.Answers.{treeOf}
+use Rattle.formula.specs.Answers.{partAt, treeOf}
 use Rattle.bounded_steps.specs.Programs.{bounded, emitBounded, boundedKind}
 use Rattle.steps.proofs.RunLaws.{runs-next, runs-stop, runs-below, emits-by}
 use Rattle.steps.proofs.TreeLaws.{View, a-lit}
-use Rattle.steps.proofs.NodeLaws.{Law, AtLit, at-lit, literal-view}
+use Rattle.steps.proofs.NodeLaws.{Law, AtLit, at-lit, literal-view, part-runs}
 
 -- The program and the rule at each kind byte.
 face-laws : (d : ℕ) → EachNode Faces (Law Faces (emitFace d) (face d) (boundedKind Faces))
@@ -127,3 +131,49 @@ literal-of-face Intervals d e h x a k p o w = absurd (let z : _≡_ {A = ℕ} 0 
 pub literal-of-interval : {l l₁ : Book} {f : List ℕ} {r : Ran} {n : ℕ} (s : Sort) (d : ℕ) → s ≡ Intervals → Known s f → Literal s n f → Runs l (emitInterval d (dim n)) r l₁ → Runs l (emitBounded s d (treeOf s f)) r l₁
 literal-of-interval Faces d e h x k = absurd (let z : _≡_ {A = ℕ} 0 1 = cc in omega arith)
 literal-of-interval {f = f} Intervals d e h x k = literal-interval d (treeOf Intervals f) (literal-view h x) k
+
+-- The step of the formula from `at` on, which ends at m.
+abbrev pub Whole : Sort → ℕ → List ℕ → ℕ → Book → ℕ → ℕ → Place → Walked → Book → Type 0
+Whole s d f at l i k m r l′ = Emits l (boundedKind s (getD (span at m f) 0 0)) (i ∷ k ∷ 0 ∷ []) (dimBytes d ++ span at m f) (r .ran) l′ × (r .place ≡ m)
+
+-- The formula at a place, and the place behind it.
+module _ (s : Sort) (d : ℕ) {f : List ℕ} {p : Place} (b : d ≤ 255) (h : KnownAt s f p) where
+  here-limited : Limited (bounded s d (treeAt s f p))
+  here-limited = bounded-limited s d (treeAt s f p) (partAt s f (p .at)) (h .is) b
+
+  here-bytes : {w : List ℕ} → w ≡ partAt s f (p .at) → operandBytes (bounded s d (treeAt s f p)) ≡ dimBytes d ++ w
+  here-bytes {w} e = bounded-bytes s d (treeAt s f p) w (subst (Is s (treeAt s f p)) (sym e) (h .is))
+
+  module _ {q : Place} where
+    pub leaf-walks : {l l′ : Book} {r : Walked} {i k : ℕ} → EndAt s (treeAt s f p) f p q (Leaf q) → Whole s d f (p .at) l i k q r l′ → Walks l (emitBounded s d (treeAt s f p)) (behindAt s f p) r l′
+    leaf-walks v w =
+        let e = between-part h refl (v .end) in
+        record { runs = leaf-at s (emitBounded s d) (bounded s d) (boundedKind s) (bounded-laws s d) v e here-limited (here-bytes e) (w .0); moved = λ x. w .1 ∙ v .end }
+
+    pub literal-walks : {l l′ : Book} {r : Ran} {n : ℕ} {w : List ℕ} → EndAt s (treeAt s f p) f p q (Lit q n) → w ≡ span (p .at) q f → Runs l (emitBounded s d (treeOf s w)) r l′
+        → Walks l (emitBounded s d (treeAt s f p)) (behindAt s f p) (record { ran = r; place = q }) l′
+    literal-walks v e k = record { runs = part-runs s (emitBounded s d) (between-part h e (v .end)) k; moved = λ x. v .end }
+
+    module _ {l l₁ : Book} {a : Walked} (v : OneAt s (treeAt s f p) f p q) (k : Walks l (emitBounded s d (treeAt s f q)) (behindAt s f q) a l₁) where
+      pub one-walks-stop : doneBy (a .ran) ≡ false → Walks l (emitBounded s d (treeAt s f p)) (behindAt s f p) a l₁
+      one-walks-stop g = record { runs = one-at-stop s (emitBounded s d) (bounded s d) (boundedKind s) (bounded-laws s d) v (k .runs) g; moved = λ x. k .moved x ∙ v .end }
+
+      pub one-walks : {l₂ : Book} {r : Walked} {i j : ℕ} → doneBy (a .ran) ≡ true → i ≡ stepBy (a .ran) → Whole s d f (p .at) l₁ i j (a .place) r l₂ → Walks l (emitBounded s d (treeAt s f p)) (behindAt s f p) r l₂
+      one-walks g i w =
+          let n = k .moved g ∙ v .end in
+          let e = between-part h refl n in
+          record { runs = one-at-runs s (emitBounded s d) (bounded s d) (boundedKind s) (bounded-laws s d) v (k .runs) e here-limited (here-bytes e) g i (w .0); moved = λ x. w .1 ∙ n }
+
+    module _ {l l₁ : Book} {a : Walked} (v : TwoAt s (treeAt s f p) f p q) (k : Walks l (emitBounded s d (treeAt s f q)) (behindAt s f q) a l₁) where
+      pub two-walks-stop : doneBy (a .ran) ≡ false → Walks l (emitBounded s d (treeAt s f p)) (behindAt s f p) a l₁
+      two-walks-stop g = record { runs = two-at-stop s (emitBounded s d) (bounded s d) (boundedKind s) (bounded-laws s d) v (k .runs) g; moved = λ x. not-both x g }
+
+      module _ {l₂ : Book} {c : Walked} (g : doneBy (a .ran) ≡ true) (k₂ : Walks l₁ (emitBounded s d (treeAt s f (a .place))) (behindAt s f (a .place)) c l₂) where
+        pub two-walks-stop-right : doneBy (c .ran) ≡ false → Walks l (emitBounded s d (treeAt s f p)) (behindAt s f p) c l₂
+        two-walks-stop-right o = record { runs = two-at-stop-right s (emitBounded s d) (bounded s d) (boundedKind s) (bounded-laws s d) v (k .runs) g (k .moved g) (k₂ .runs) o; moved = λ x. two-end v (k .moved g) (k₂ .moved x) }
+
+        pub two-walks : {l₃ : Book} {r : Walked} {i j : ℕ} → doneBy (c .ran) ≡ true → i ≡ stepBy (a .ran) → j ≡ stepBy (c .ran) → Whole s d f (p .at) l₂ i j (c .place) r l₃ → Walks l (emitBounded s d (treeAt s f p)) (behindAt s f p) r l₃
+        two-walks o i j w =
+            let n = two-end v (k .moved g) (k₂ .moved o) in
+            let e = between-part h refl n in
+            record { runs = two-at-runs s (emitBounded s d) (bounded s d) (boundedKind s) (bounded-laws s d) v (k .runs) g (k .moved g) (k₂ .runs) e here-limited (here-bytes e) o i j (w .0); moved = λ x. w .1 ∙ n }

@@ -3,6 +3,7 @@ use formula::Place;
 use formula::Sort;
 use formula::Step;
 use steps::Ran;
+use steps::Walked;
 ghost use mathlib.Core.Path.{_≡_};
 ghost use mathlib.Core.List.{[], _∷_, _++_};
 ghost use Prim.Native.Nat.{_≤_, _<_};
@@ -14,6 +15,7 @@ ghost use Rattle.index.specs.Index.{Indexed};
 ghost use Rattle.steps.specs.Running.{book, Runs, Emits};
 ghost use Rattle.formula.specs.Answers.{treeOf};
 ghost use Rattle.steps.specs.Trees.{Known, Literal};
+ghost use Rattle.steps.specs.Walking.{treeAt, KnownAt, behindAt, span, Spans, Walks};
 ghost use Rattle.bounded_steps.specs.Programs.{boundedKind, emitBounded};
 
 // The kind of the rule for a formula that begins with this byte.
@@ -85,35 +87,75 @@ fn bounded_literal(l: &mut [u8], ix: &mut [u32], sort: Sort, d: usize, n: usize,
     }
 }
 
+// The step of the formula between `at` and `end`, from those of its parts.
+fn bounded_end(
+    l: &mut [u8],
+    ix: &mut [u32],
+    sort: Sort,
+    d: usize,
+    f: &[u8],
+    at: usize,
+    end: Place,
+    i: usize,
+    k: usize,
+) -> Walked
+    requires { ⌜ Indexed (now l) (now ix) × Spans (now f) at end × (d ≤ 255) ⌝ }
+    ensures { λ r. ⌜ Emits (book (now (l .entry)) (now (ix .entry))) (boundedKind sort (getD (span at end (now (f .entry))) 0 0)) (i ∷ k ∷ 0 ∷ []) (dimBytes d ++ span at end (now (f .entry))) (r .ran) (book (now (l .exit)) (now (ix .exit))) × (r .place ≡ end) ⌝ }
+{
+    let x = steps::between(f, at, end);
+    Walked {
+        ran: bounded_whole(l, ix, sort, d, x, i, k),
+        place: end,
+    }
+}
+
+// The steps of the formula at p and of its parts; 8 at the first dimension that is not below d.
+fn bounded_at(l: &mut [u8], ix: &mut [u32], sort: Sort, d: usize, f: &[u8], p: Place) -> Walked
+    requires { ⌜ Indexed (now l) (now ix) × KnownAt sort (now f) p × (d ≤ 255) ⌝ }
+    ensures { λ r. ⌜ Walks (book (now (l .entry)) (now (ix .entry))) (emitBounded sort d (treeAt sort (now (f .entry)) p)) (behindAt sort (now (f .entry)) p) r (book (now (l .exit)) (now (ix .exit))) ⌝ }
+{
+    let at = p.at;
+    match p.step(sort, f) {
+        Step::Leaf(q) => bounded_end(l, ix, sort, d, f, at, q, 0, 0),
+        Step::Lit(q, n) => Walked {
+            ran: bounded_literal(l, ix, sort, d, n, steps::between(f, at, q)),
+            place: q,
+        },
+        Step::One(q) => {
+            let a = bounded_at(l, ix, sort, d, f, q);
+            let below = a.ran;
+            if !steps::is_done(below) {
+                return a;
+            }
+            bounded_end(l, ix, sort, d, f, at, a.place, steps::step_of(below), 0)
+        }
+        Step::Two(q) => {
+            let a = bounded_at(l, ix, sort, d, f, q);
+            let left = a.ran;
+            if !steps::is_done(left) {
+                return a;
+            }
+            let b = bounded_at(l, ix, sort, d, f, a.place);
+            let right = b.ran;
+            if !steps::is_done(right) {
+                return b;
+            }
+            let i = steps::step_of(left);
+            let k = steps::step_of(right);
+            bounded_end(l, ix, sort, d, f, at, b.place, i, k)
+        }
+        Step::Stuck => Walked {
+            ran: Ran::Full,
+            place: p,
+        },
+    }
+}
+
 // The steps of a formula and its parts; 8 at the first dimension that is not below d.
 pub fn bounded(l: &mut [u8], ix: &mut [u32], sort: Sort, d: usize, f: &[u8]) -> Ran
     requires { ⌜ Indexed (now l) (now ix) × Known sort (now f) × (d ≤ 255) ⌝ }
     ensures { λ r. ⌜ Runs (book (now (l .entry)) (now (ix .entry))) (emitBounded sort d (treeOf sort (now (f .entry)))) r (book (now (l .exit)) (now (ix .exit))) ⌝ }
 {
-    let first = Place { at: 0, pending: 1 };
-    match first.step(sort, f) {
-        Step::Leaf(_) => bounded_whole(l, ix, sort, d, f, 0, 0),
-        Step::Lit(_, n) => bounded_literal(l, ix, sort, d, n, f),
-        Step::One(_) => {
-            let r = bounded(l, ix, sort, d, &f[1..]);
-            if !steps::is_done(r) {
-                return r;
-            }
-            bounded_whole(l, ix, sort, d, f, steps::step_of(r), 0)
-        }
-        Step::Two(_) => {
-            let a = formula::formula_at(sort, f, 1);
-            let m = 1 + a.len();
-            let r = bounded(l, ix, sort, d, a);
-            if !steps::is_done(r) {
-                return r;
-            }
-            let s = bounded(l, ix, sort, d, &f[m..]);
-            if !steps::is_done(s) {
-                return s;
-            }
-            bounded_whole(l, ix, sort, d, f, steps::step_of(r), steps::step_of(s))
-        }
-        Step::Stuck => Ran::Full,
-    }
+    let r = bounded_at(l, ix, sort, d, f, Place { at: 0, pending: 1 });
+    r.ran
 }

@@ -4,10 +4,9 @@ use native.Mathlib.Omega.{arith}
 use mathlib.Core.Path.{_≡_, refl, sym, ap, ap₂, _∙_, subst}
 use mathlib.Core.Bool.{true, false}
 use mathlib.Core.List.{List, [], _∷_, _++_}
-use lib.ListN.{length, getD, drop}
+use lib.ListN.{getD}
 use borrow.Author.Tests.{lt-ltb, le-ltb, ne-eqb}
 use Rattle.formula.specs.declared.Sort.the-variants.{Faces}
-use Rattle.formula.specs.declared.Step.the-variants.{Two}
 use Rattle.formula.specs.declared.Place.{Place}
 use Rattle.formula.specs.Formula.{End, Face, at}
 use Rattle.formula.specs.Operations.{forall}
@@ -30,9 +29,11 @@ use Rattle.steps.specs.Running.{Book, doneBy, stepBy, Runs, Emits}
 use Rattle.steps.specs.Trees.{Is, Known}
 use Rattle.forall_steps.specs.Programs.{forallKind}
 use Rattle.steps.proofs.RunLaws.{emits-by, emits-kind, runs-emit, runs-stop}
-use Rattle.steps.proofs.TreeLaws.{View}
-use Rattle.steps.proofs.NodeLaws.{Law, AtTwo, AtEnd, at-end, end-kind, behind}
-use Rattle.steps.proofs.ResultLaws.{Cut, Pairs, result-cut}
+use Rattle.steps.proofs.NodeLaws.{Law, AtTwo, AtEnd, at-end, end-kind}
+use Rattle.steps.specs.Walking.{StandsAt, treeAt, KnownAt, behindAt, span}
+use Rattle.steps.proofs.ResultLaws.{Pairs}
+use Rattle.steps.proofs.PlaceLaws.{between-part}
+use Rattle.steps.proofs.WalkLaws.{Beside}
 
 -- The program and the rule at each kind byte.
 pub forall-laws : (k : ℕ) → EachNode Faces (Law Faces (emitForall k) (foralls k) forallKind)
@@ -60,19 +61,23 @@ module _ {f out : List ℕ} (k : ℕ) (h : Known Faces f) (e : out ≡ encode Fa
   foralls-bytes = sym (ap₂ (λ (x y : List ℕ). x ++ (dimBytes k ++ y)) (h .bytes) e)
 
 -- The results of the parts.
-forall-two : (k : ℕ) → EachNode Faces (AtTwo Faces (Pairs Faces Faces (forall k)))
+pub forall-two : (k : ℕ) → EachNode Faces (AtTwo Faces (Pairs Faces Faces (forall k)))
 unfolding forall encodeFace nodesFace boundFace
 forall-two k = record { at0 = tt; at1 = tt; at2 = tt; at3 = tt; at4 = λ x y. record { byte = 4; made = record { bytes = refl; count = refl; top = refl } }; at5 = λ x y. record { byte = 5; made = record { bytes = refl; count = refl; top = refl } }; none = λ b. tt }
 
-module _ {f out : List ℕ} {q : Place} (k : ℕ) (v : View Faces f (treeOf Faces f) (Two q)) (e : out ≡ encode Faces (forall k (treeOf Faces f))) where
-  pub forall-cut : Cut Faces out (forall k (treeOf Faces (partAt Faces f 1))) (forall k (treeOf Faces (drop (1 + length (partAt Faces f 1)) f)))
-  forall-cut = result-cut Faces Faces (forall k) (forall-two k) (treeOf Faces f) v e
+-- The face at p, beside its result at q.
+module _ {f out : List ℕ} {p q : Place} (k : ℕ) (h : KnownAt Faces f p) (g : StandsAt Faces (forall k (treeAt Faces f p)) out q) where
+  pub beside : k < 255 → Beside Faces (emitForall k) (foralls k) forallKind (λ x n. x ++ (dimBytes k ++ span (q .at) n out)) f p (behindAt Faces out q)
+  beside b =
+      record {
+        laws = forall-laws k;
+        known = h;
+        limited = ((h .is .few, h .is .low), (b, ((g .is .few, g .is .low), tt)));
+        operands = λ x n e i. sym (ap₂ (λ (y z : List ℕ). y ++ (dimBytes k ++ z)) (e ∙ h .is .bytes) (between-part g refl i ∙ g .is .bytes));
+      }
 
-  pub forall-left : {x y : List ℕ} → x ≡ partAt Faces f 1 → y ≡ partAt Faces out 1 → y ≡ encode Faces (forall k (treeOf Faces x))
-  forall-left i j = j ∙ forall-cut .left ∙ ap (λ (z : List ℕ). encode Faces (forall k (treeOf Faces z))) (sym i)
-
-  pub forall-right : {x y z w : List ℕ} → x ≡ partAt Faces f 1 → y ≡ partAt Faces out 1 → z ≡ drop (1 + length x) f → w ≡ drop (1 + length y) out → w ≡ encode Faces (forall k (treeOf Faces z))
-  forall-right i j a b = b ∙ behind out j ∙ forall-cut .right ∙ ap (λ (u : List ℕ). encode Faces (forall k (treeOf Faces u))) (sym (a ∙ behind f i))
+  pub literal-image : {x y : List ℕ} {n : Place} → x ≡ partAt Faces f (p .at) → y ≡ span (q .at) n out → n ≡ behindAt Faces out q → y ≡ encode Faces (forall k (treeOf Faces x))
+  literal-image e i j = between-part g i j ∙ g .is .bytes ∙ ap (λ (z : List ℕ). encode Faces (forall k (treeOf Faces z))) (sym e)
 
 -- A literal by its dimension beside k: the program and the rule.
 below-program : (k n : ℕ) (e : End) → n < k → emitForall k (at e n) ≡ (emitComparison less n k >>= λ i. emit (side e 42 45) (i ∷ []) (foralls k (at e n)))

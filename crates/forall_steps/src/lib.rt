@@ -2,6 +2,7 @@
 use formula::Place;
 use formula::Sort;
 use formula::Step;
+use steps::Paired;
 use steps::Ran;
 ghost use mathlib.Core.Path.{_≡_};
 ghost use mathlib.Core.List.{[], _∷_, _++_};
@@ -14,6 +15,7 @@ ghost use Rattle.index.specs.Index.{Indexed};
 ghost use Rattle.steps.specs.Running.{book, Runs, Emits};
 ghost use Rattle.formula.specs.Answers.{treeOf};
 ghost use Rattle.steps.specs.Trees.{Known, Literal};
+ghost use Rattle.steps.specs.Walking.{StandsAt, treeAt, KnownAt, behindAt, span, Spans, WalksBoth};
 ghost use Rattle.forall_steps.specs.Programs.{forallKind};
 
 // The kind of the rule `more` after the first for a face that begins with this byte.
@@ -71,35 +73,87 @@ fn forall_literal(l: &mut [u8], ix: &mut [u32], f: &[u8], k: usize, n: usize, ou
     forall_whole(l, ix, f, k, out, 2, steps::step_of(r), 0)
 }
 
+// The step of the face between `at` and `end`, whose result stands between `from` and `last`, from those of its parts.
+fn forall_end(
+    l: &mut [u8],
+    ix: &mut [u32],
+    f: &[u8],
+    at: usize,
+    end: Place,
+    k: usize,
+    out: &[u8],
+    from: usize,
+    last: Place,
+    i: usize,
+    j: usize,
+) -> Paired
+    requires { ⌜ Indexed (now l) (now ix) × Spans (now f) at end × (k < 255) × Spans (now out) from last ⌝ }
+    ensures { λ r. ⌜ Emits (book (now (l .entry)) (now (ix .entry))) (forallKind (getD (span at end (now (f .entry))) 0 0)) (i ∷ j ∷ 0 ∷ []) (span at end (now (f .entry)) ++ (dimBytes k ++ span from last (now (out .entry)))) (r .ran) (book (now (l .exit)) (now (ix .exit))) × (r .place ≡ end) × (r .image ≡ last) ⌝ }
+{
+    let x = steps::between(f, at, end);
+    let y = steps::between(out, from, last);
+    Paired {
+        ran: forall_whole(l, ix, x, k, y, 0, i, j),
+        place: end,
+        image: last,
+    }
+}
+
+// The steps of the face at p and of its parts, beside the result at q.
+fn forall_at(
+    l: &mut [u8],
+    ix: &mut [u32],
+    f: &[u8],
+    p: Place,
+    k: usize,
+    out: &[u8],
+    q: Place,
+) -> Paired
+    requires { ⌜ Indexed (now l) (now ix) × KnownAt Sort.Faces (now f) p × (k < 255) × StandsAt Sort.Faces (forallOf k (treeAt Sort.Faces (now f) p)) (now out) q ⌝ }
+    ensures { λ r. ⌜ WalksBoth (book (now (l .entry)) (now (ix .entry))) (emitForall k (treeAt Sort.Faces (now (f .entry)) p)) (behindAt Sort.Faces (now (f .entry)) p) (behindAt Sort.Faces (now (out .entry)) q) r (book (now (l .exit)) (now (ix .exit))) ⌝ }
+{
+    let at = p.at;
+    let from = q.at;
+    match p.step(Sort::Faces, f) {
+        Step::Leaf(e) => {
+            let w = steps::over(Sort::Faces, out, q);
+            forall_end(l, ix, f, at, e, k, out, from, w, 0, 0)
+        }
+        Step::Lit(e, n) => {
+            let w = steps::over(Sort::Faces, out, q);
+            let x = steps::between(f, at, e);
+            Paired {
+                ran: forall_literal(l, ix, x, k, n, steps::between(out, from, w)),
+                place: e,
+                image: w,
+            }
+        }
+        Step::One(_) => steps::nowhere(p, q),
+        Step::Two(e) => {
+            let a = forall_at(l, ix, f, e, k, out, steps::inside(out, q));
+            let left = a.ran;
+            if !steps::is_done(left) {
+                return a;
+            }
+            let b = forall_at(l, ix, f, a.place, k, out, a.image);
+            let right = b.ran;
+            if !steps::is_done(right) {
+                return b;
+            }
+            let i = steps::step_of(left);
+            let j = steps::step_of(right);
+            forall_end(l, ix, f, at, b.place, k, out, from, b.image, i, j)
+        }
+        Step::Stuck => steps::nowhere(p, q),
+    }
+}
+
 // The steps of a face and its parts.
 pub fn forall(l: &mut [u8], ix: &mut [u32], f: &[u8], k: usize, out: &[u8]) -> Ran
     requires { ⌜ Indexed (now l) (now ix) × Known Sort.Faces (now f) × (k < 255) × (now out ≡ encode Sort.Faces (forallOf k (treeOf Sort.Faces (now f)))) ⌝ }
     ensures { λ r. ⌜ Runs (book (now (l .entry)) (now (ix .entry))) (emitForall k (treeOf Sort.Faces (now (f .entry)))) r (book (now (l .exit)) (now (ix .exit))) ⌝ }
 {
-    let first = Place { at: 0, pending: 1 };
-    match first.step(Sort::Faces, f) {
-        Step::Leaf(_) => forall_whole(l, ix, f, k, out, 0, 0, 0),
-        Step::Lit(_, n) => forall_literal(l, ix, f, k, n, out),
-        Step::One(_) => Ran::Full,
-        Step::Two(_) => {
-            let x = formula::formula_at(Sort::Faces, f, 1);
-            let y = formula::formula_at(Sort::Faces, out, 1);
-            let a = forall(l, ix, x, k, y);
-            if !steps::is_done(a) {
-                return a;
-            }
-            let b = forall(
-                l,
-                ix,
-                steps::behind(f, x.len()),
-                k,
-                steps::behind(out, y.len()),
-            );
-            if !steps::is_done(b) {
-                return b;
-            }
-            forall_whole(l, ix, f, k, out, 0, steps::step_of(a), steps::step_of(b))
-        }
-        Step::Stuck => Ran::Full,
-    }
+    let p = Place { at: 0, pending: 1 };
+    let r = forall_at(l, ix, f, p, k, out, p);
+    r.ran
 }

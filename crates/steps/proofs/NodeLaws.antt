@@ -1,18 +1,16 @@
 -- Emitters that go by the nodes of a formula: the steps of the parts, left first, then the step of the whole.
-use Prim.Native.Nat.{ℕ, _+_, _-_, _≤_, _<_}
+use Prim.Native.Nat.{ℕ, _+_, _-_, _<_}
 use native.Mathlib.Omega.{arith}
 use mathlib.Core.Path.{_≡_, refl, sym, ap, _∙_, subst, subst₂}
 use mathlib.Core.Bool.{true, false}
 use mathlib.Core.List.{List, [], _∷_}
-use lib.ListN.{length, getD, take, drop, length-drop}
-use lib.Seq.{take-all}
+use lib.ListN.{length, getD, drop}
 use Rattle.formula.specs.declared.Sort.{Sort}
-use Rattle.formula.specs.declared.Step.{Step}
-use Rattle.formula.specs.declared.Step.the-variants.{Leaf, Lit, One, Two, Stuck}
+use Rattle.formula.specs.declared.Step.the-variants.{Leaf, Lit, One, Two}
 use Rattle.formula.specs.declared.Place.{Place}
 use Rattle.formula.specs.declared.Sort.the-variants.{Faces}
 use Rattle.formula.specs.Formula.{End, lo, hi, Face, at}
-use Rattle.formula.specs.Bytes.{Tree, Node, leaf, lit, one, two, bad, nodeOf}
+use Rattle.formula.specs.Bytes.{Tree, dimBytes, Node, leaf, lit, one, two, bad, nodeOf}
 use Rattle.formula.specs.Answers.{partAt, treeOf}
 use Rattle.formula.proofs.Nodes.{EachNode, each-node, made-as}
 use Rattle.calculus.specs.Judgement.{Judgement}
@@ -26,28 +24,7 @@ use Rattle.steps.specs.declared.Ran.{Ran}
 use Rattle.steps.specs.Running.{Book, doneBy, stepBy, Runs, Emits}
 use Rattle.steps.specs.Trees.{Is, Known, Literal}
 use Rattle.steps.proofs.RunLaws.{runs-next, runs-stop, runs-below, runs-more, emits-by}
-use Rattle.steps.proofs.TreeLaws.{View, a-leaf, a-lit, a-one, a-two, view, tree-of, known}
-
--- No formula begins with a step that leads nowhere.
-stuck-view : {A : Type 0} {s : Sort} {f : List ℕ} {t : Tree s} → View s f t Stuck → A
-stuck-view v = elim v [ ]
-
--- What is known of the parts.
-pub one-known : {s : Sort} {f : List ℕ} {q : Place} (t : Tree s) → View s f t (One q) → Known s (drop 1 f)
-one-known t (a-one b u x e g h) = known h
-
-pub two-known : {s : Sort} {f : List ℕ} {q : Place} (t : Tree s) → View s f t (Two q) → Known s (partAt s f 1) × Known s (drop (1 + length (partAt s f 1)) f)
-two-known t (a-two b v x y e g h i j) = (known h, known i)
-
-pub two-inside : {s : Sort} {f : List ℕ} {q : Place} (t : Tree s) → View s f t (Two q) → 1 + length (partAt s f 1) ≤ length f
-two-inside t (a-two b v x y e g h i j) = j
-
-pub not-stuck : {A : Type 0} {s : Sort} {f : List ℕ} (t : Tree s) (x : Step) → View s f t x → x ≡ Stuck → A
-not-stuck t (Leaf q) v e = absurd (let z : _≡_ {A = ℕ} 0 1 = cc in omega arith)
-not-stuck t (Lit q n) v e = absurd (let z : _≡_ {A = ℕ} 0 1 = cc in omega arith)
-not-stuck t (One q) v e = absurd (let z : _≡_ {A = ℕ} 0 1 = cc in omega arith)
-not-stuck t (Two q) v e = absurd (let z : _≡_ {A = ℕ} 0 1 = cc in omega arith)
-not-stuck t Stuck v e = stuck-view v
+use Rattle.steps.proofs.TreeLaws.{View, a-leaf, a-lit, a-one, a-two, view, tree-of, first-step}
 
 -- What holds at the literals of a sort, at its nodes over one formula, and at those over two.
 module _ (s : Sort) where
@@ -170,22 +147,16 @@ module _ (s : Sort) (W : Tree s → Program) (J : Tree s → Judgement) (K : ℕ
         (runs-next (λ m. emit (K b) (stepBy r ∷ m ∷ []) (J (v x y))) n′ p
         (emits-by w₂ (q .1) (stepBy r ∷ stepBy c ∷ []) refl (below, (runs-below n′ p, tt)) lim refl ops)))
 
--- A run on a part of the bytes, and the rest of them.
+-- A run on a part of the bytes.
 pub part-runs : (s : Sort) {l l₁ : Book} {x y : List ℕ} {r : Ran} (W : Tree s → Program) → x ≡ y → Runs l (W (treeOf s x)) r l₁ → Runs l (W (treeOf s y)) r l₁
 part-runs s {l} {l₁} {r = r} W e h = subst (λ (z : List ℕ). Runs l (W (treeOf s z)) r l₁) e h
-
-pub rest-of : (f : List ℕ) (m : ℕ) → take (length f - m) (drop m f) ≡ drop m f
-rest-of f m = take-all (length f - m) (drop m f) (omega (arith, length-drop m f))
-
-pub behind : (f : List ℕ) {x y : List ℕ} → x ≡ y → drop (1 + length x) f ≡ drop (1 + length y) f
-behind f e = ap (λ (z : List ℕ). drop (1 + length z) f) e
-
-pub rest-behind : (f : List ℕ) {x y : List ℕ} → x ≡ y → take (length f - (1 + length x)) (drop (1 + length x) f) ≡ drop (1 + length y) f
-rest-behind f {x} e = rest-of f (1 + length x) ∙ behind f e
 
 -- A literal, as it is told of the bytes.
 pub literal-view : {s : Sort} {f : List ℕ} {n : ℕ} → Known s f → (h : Literal s n f) → View s f (treeOf s f) (Lit (h .place) n)
 literal-view {s} {f} {n} k h = subst (View s f (treeOf s f)) (h .steps) (view s (treeOf s f) f k)
+
+pub literal-of : {s : Sort} {f : List ℕ} {t : Tree s} {q : Place} {n : ℕ} → View s f t (Lit q n) → Literal s n f
+literal-of {s} (a-lit b n g e i) = subst (Literal s n) (sym i) (record { place = _; steps = first-step s b (dimBytes n) (lit g) e })
 
 -- The dimension of a literal keeps the limits.
 pub literal-low : {s : Sort} {f : List ℕ} {q : Place} {n : ℕ} (t : Tree s) → View s f t (Lit q n) → Is s t f → n < 255

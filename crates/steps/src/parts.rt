@@ -1,10 +1,9 @@
 // The emit rule for operands that stand in several slices.
 use crate::Ran;
 use emission::Emitted;
-ghost use mathlib.Core.Path.{_≡_};
 ghost use mathlib.Core.List.{_++_};
 ghost use Prim.Native.Nat.{_+_, _≤_};
-ghost use lib.ListN.{length, drop};
+ghost use lib.ListN.{length};
 ghost use Rattle.index.specs.Index.{Indexed};
 ghost use Rattle.steps.specs.Running.{book, Emits};
 
@@ -92,13 +91,4 @@ pub fn emit3(
     ensures { λ r. ⌜ Emits (book (now (l .entry)) (now (ix .entry))) kind references (now (a .entry) ++ (now (b .entry) ++ now (c .entry))) r (book (now (l .exit)) (now (ix .exit))) ⌝ }
 {
     emit(l, ix, kind, references, a, b, c, &c[..0], &c[..0])
-}
-
-// What stands behind the first byte and a first part of n bytes.
-pub fn behind(s: &[u8], n: usize) -> &[u8]
-    requires { ⌜ 1 + n ≤ length (now s) ⌝ }
-    ensures { λ r. ⌜ now r ≡ drop (1 + n) (now (s .entry)) ⌝ }
-{
-    let m = 1 + n;
-    &s[m..]
 }

@@ -4,7 +4,7 @@ use native.Mathlib.Omega.{arith}
 use mathlib.Core.Path.{_≡_, refl, sym, ap, ap₂, _∙_, subst as along, subst₂ as along₂}
 use mathlib.Core.Bool.{true, false}
 use mathlib.Core.List.{List, [], _∷_, _++_, append-nil}
-use lib.ListN.{length, getD, drop}
+use lib.ListN.{length, getD}
 use borrow.Author.Tests.{lt-ltb, le-ltb}
 use Rattle.formula.specs.declared.Sort.{Sort}
 use Rattle.formula.specs.declared.Sort.the-variants.{Faces, Intervals}
@@ -13,7 +13,7 @@ use Rattle.operations.specs.declared.Op.the-variants.{DShift, DSubst}
 use Rattle.formula.specs.Operations.{Op, shift, subst, dimTo, itransform, ftransform, transform}
 use Rattle.formula.specs.Bytes.{dimBytes, nodeOf, encodeFace, encodeInterval, nodesFace, nodesInterval, boundFace, boundInterval}
 use Rattle.formula.specs.Answers.{partAt, treeOf}
-use Rattle.formula.specs.declared.Step.the-variants.{Lit, One, Two}
+use Rattle.formula.specs.declared.Step.the-variants.{Lit}
 use Rattle.formula.specs.declared.Place.{Place}
 use Rattle.formula.specs.Formula.{End, lo, hi, Face, at, Interval, dim, beside}
 use Rattle.formula.proofs.Compare.{compare-lt, compare-eq, compare-gt, lt-of-compare}
@@ -35,8 +35,11 @@ use Rattle.steps.specs.Trees.{Is, Known, Literal}
 use Rattle.transforms.specs.Transforms.{opOf, KnownOp, transformBytes, firstKind, kindGap, transformKind}
 use Rattle.steps.proofs.RunLaws.{emits-by, emits-kind, runs-emit, runs-next, runs-stop, runs-below, runs-more}
 use Rattle.steps.proofs.TreeLaws.{View, a-lit, tree-of}
-use Rattle.steps.proofs.NodeLaws.{Law, AtLit, at-lit, AtOne, AtTwo, AtEnd, at-end, literal-end, end-kind, behind, literal-view, literal-low}
-use Rattle.steps.proofs.ResultLaws.{CutIs, Pairs, Singles, result-cut-is, result-rest}
+use Rattle.steps.proofs.NodeLaws.{Law, AtLit, at-lit, AtOne, AtTwo, AtEnd, at-end, literal-end, end-kind, literal-view, literal-low}
+use Rattle.steps.specs.Walking.{StandsAt, treeAt, KnownAt, behindAt, span}
+use Rattle.steps.proofs.ResultLaws.{Pairs, Singles}
+use Rattle.steps.proofs.PlaceLaws.{between-part}
+use Rattle.steps.proofs.WalkLaws.{Beside}
 
 -- The program and the rule at each kind byte.
 face-laws : (o : Asked) (t : List ℕ) → EachNode Faces (Law Faces (emitFaces (opOf o t)) (transforms Faces (opOf o t)) (transformKind Faces o))
@@ -271,22 +274,19 @@ sort-told {f} {out} {n} s z o e h k i = along (λ (y : Sort). LiteralOf y o n f 
 pub sort-runs : {l l₁ : Book} {r : Ran} (f : List ℕ) (s z : Sort) (o : Op) → s ≡ z → Runs l (emitTransform z o (treeOf z f)) r l₁ → Runs l (emitTransform s o (treeOf s f)) r l₁
 sort-runs {l} {l₁} {r} f s z o e h = along (λ (y : Sort). Runs l (emitTransform y o (treeOf y f)) r l₁) (sym e) h
 
--- The parts of the result belong to the parts of the formula.
-pub transform-rest : {f out x y : List ℕ} {q : Place} (s : Sort) (o : Op) → View s f (treeOf s f) (One q) → Is s (transform s o (treeOf s f)) out → x ≡ drop 1 f → y ≡ drop 1 out → Is s (transform s o (treeOf s x)) y
-transform-rest {f} s o v i a b = along₂ (λ (x y : List ℕ). Is s (transform s o (treeOf s x)) y) (sym a) (sym b) (result-rest s s (transform s o) (transform-one s o) (treeOf s f) v i)
+-- The formula at p, beside its result at q.
+module _ {f out : List ℕ} {p q : Place} (s : Sort) (o : Asked) (t : List ℕ) (a : KnownOp o t) (h : KnownAt s f p) (g : StandsAt s (transform s (opOf o t) (treeAt s f p)) out q) where
+  pub result-beside : Beside s (emitTransform s (opOf o t)) (transforms s (opOf o t)) (transformKind s o) (λ x n. transformBytes o x t (span (q .at) n out)) f p (behindAt s out q)
+  result-beside =
+      record {
+        laws = transform-laws s o t;
+        known = h;
+        limited = transforms-limited t s o a (h .is) (g .is);
+        operands = λ x n e i. transforms-bytes t s o a (h .is) (g .is) ∙ sym (ap₂ (λ (y z : List ℕ). transformBytes o y t z) e (between-part g refl i));
+      }
 
-module _ {f out x y : List ℕ} {q : Place} (s : Sort) (o : Op) (v : View s f (treeOf s f) (Two q)) (i : Is s (transform s o (treeOf s f)) out) (a : x ≡ partAt s f 1) (b : y ≡ partAt s out 1) where
-  parts : CutIs s out (transform s o (treeOf s (partAt s f 1))) (transform s o (treeOf s (drop (1 + length (partAt s f 1)) f)))
-  parts = result-cut-is s s (transform s o) (transform-two s o) (treeOf s f) v i
-
-  pub transform-inside : 1 + length y ≤ length out
-  transform-inside = omega (arith, parts .inside, ap length b)
-
-  pub transform-left : Is s (transform s o (treeOf s x)) y
-  transform-left = along₂ (λ (x y : List ℕ). Is s (transform s o (treeOf s x)) y) (sym a) (sym b) (parts .left)
-
-  pub transform-right : {z w : List ℕ} → z ≡ drop (1 + length x) f → w ≡ drop (1 + length y) out → Is s (transform s o (treeOf s z)) w
-  transform-right c d = along₂ (λ (x y : List ℕ). Is s (transform s o (treeOf s x)) y) (sym (c ∙ behind f a)) (sym (d ∙ behind out b)) (parts .right)
+  pub literal-image : {x y : List ℕ} {n : Place} → x ≡ partAt s f (p .at) → y ≡ span (q .at) n out → n ≡ behindAt s out q → Is s (transform s (opOf o t) (treeOf s x)) y
+  literal-image e i j = along₂ (λ (x y : List ℕ). Is s (transform s (opOf o t) (treeOf s x)) y) (sym e) (sym (between-part g i j)) (g .is)
 
 -- The kind of a byte.
 pub kind-low : (s : Sort) (o : Asked) (b : ℕ) → b < 19 → b + firstKind s o ≡ transformKind s o b

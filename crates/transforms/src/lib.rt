@@ -4,6 +4,7 @@ use formula::Sort;
 use formula::Step;
 use operations::Op;
 use operations::Outcome;
+use steps::Paired;
 use steps::Ran;
 ghost use mathlib.Core.Path.{_≡_};
 ghost use mathlib.Core.List.{[], _∷_};
@@ -15,7 +16,8 @@ ghost use Rattle.calculus.specs.Calls.{transform as transformOf, emitBoundary, 
 ghost use Rattle.index.specs.Index.{Indexed};
 ghost use Rattle.steps.specs.Running.{book, Runs, Emits};
 ghost use Rattle.steps.specs.Trees.{Is, Known, Literal};
-ghost use Rattle.formula.specs.Answers.{treeOf};
+ghost use Rattle.formula.specs.Answers.{partAt, treeOf};
+ghost use Rattle.steps.specs.Walking.{StandsAt, treeAt, KnownAt, behindAt, span, Spans, WalksBoth};
 ghost use Rattle.transforms.specs.Transforms.{opOf, KnownOp, transformBytes, firstKind, kindGap, transformKind};
 
 // Where the kinds of the rules begin.
@@ -289,6 +291,114 @@ fn transform_literal(
     }
 }
 
+// The step of the formula between `at` and `end`, whose result stands between `from` and `last`, from those of its parts.
+fn transform_end(
+    l: &mut [u8],
+    ix: &mut [u32],
+    sort: Sort,
+    op: Op,
+    f: &[u8],
+    at: usize,
+    end: Place,
+    t: &[u8],
+    out: &[u8],
+    from: usize,
+    last: Place,
+    i: usize,
+    j: usize,
+) -> Paired
+    requires { ⌜ Indexed (now l) (now ix) × Spans (now f) at end × KnownOp op (now t) × Spans (now out) from last ⌝ }
+    ensures { λ r. ⌜ Emits (book (now (l .entry)) (now (ix .entry))) (transformKind sort op (getD (span at end (now (f .entry))) 0 0)) (i ∷ j ∷ 0 ∷ []) (transformBytes op (span at end (now (f .entry))) (now (t .entry)) (span from last (now (out .entry)))) (r .ran) (book (now (l .exit)) (now (ix .exit))) × (r .place ≡ end) × (r .image ≡ last) ⌝ }
+{
+    let x = steps::between(f, at, end);
+    let y = steps::between(out, from, last);
+    Paired {
+        ran: transform_whole(l, ix, sort, op, x, t, y, 0, i, j),
+        place: end,
+        image: last,
+    }
+}
+
+// The steps of the literal on n between the place p and `end`, beside its result at q.
+fn transform_lit(
+    l: &mut [u8],
+    ix: &mut [u32],
+    sort: Sort,
+    op: Op,
+    n: usize,
+    f: &[u8],
+    p: Place,
+    end: Place,
+    t: &[u8],
+    out: &[u8],
+    q: Place,
+) -> Paired
+    requires { ⌜ Indexed (now l) (now ix) × KnownAt sort (now f) p × KnownOp op (now t) × StandsAt sort (transformOf sort (opOf op (now t)) (treeAt sort (now f) p)) (now out) q × Literal sort n (partAt sort (now f) (p .at)) × (end ≡ behindAt sort (now f) p) ⌝ }
+    ensures { λ r. ⌜ WalksBoth (book (now (l .entry)) (now (ix .entry))) (emitTransform sort (opOf op (now (t .entry))) (treeAt sort (now (f .entry)) p)) (behindAt sort (now (f .entry)) p) (behindAt sort (now (out .entry)) q) r (book (now (l .exit)) (now (ix .exit))) ⌝ }
+{
+    let at = p.at;
+    let from = q.at;
+    let w = steps::over(sort, out, q);
+    let x = steps::between(f, at, end);
+    let y = steps::between(out, from, w);
+    Paired {
+        ran: transform_literal(l, ix, sort, op, n, x, t, y),
+        place: end,
+        image: w,
+    }
+}
+
+// The steps of the formula at p and of its parts, beside the result at q.
+fn transform_at(
+    l: &mut [u8],
+    ix: &mut [u32],
+    sort: Sort,
+    op: Op,
+    f: &[u8],
+    p: Place,
+    t: &[u8],
+    out: &[u8],
+    q: Place,
+) -> Paired
+    requires { ⌜ Indexed (now l) (now ix) × KnownAt sort (now f) p × KnownOp op (now t) × StandsAt sort (transformOf sort (opOf op (now t)) (treeAt sort (now f) p)) (now out) q ⌝ }
+    ensures { λ r. ⌜ WalksBoth (book (now (l .entry)) (now (ix .entry))) (emitTransform sort (opOf op (now (t .entry))) (treeAt sort (now (f .entry)) p)) (behindAt sort (now (f .entry)) p) (behindAt sort (now (out .entry)) q) r (book (now (l .exit)) (now (ix .exit))) ⌝ }
+{
+    let at = p.at;
+    let from = q.at;
+    match p.step(sort, f) {
+        Step::Leaf(e) => {
+            let w = steps::over(sort, out, q);
+            transform_end(l, ix, sort, op, f, at, e, t, out, from, w, 0, 0)
+        }
+        Step::Lit(e, n) => transform_lit(l, ix, sort, op, n, f, p, e, t, out, q),
+        Step::One(e) => {
+            let a = transform_at(l, ix, sort, op, f, e, t, out, steps::below(out, q));
+            let under = a.ran;
+            if !steps::is_done(under) {
+                return a;
+            }
+            let i = steps::step_of(under);
+            transform_end(l, ix, sort, op, f, at, a.place, t, out, from, a.image, i, 0)
+        }
+        Step::Two(e) => {
+            let a = transform_at(l, ix, sort, op, f, e, t, out, steps::inside(out, q));
+            let left = a.ran;
+            if !steps::is_done(left) {
+                return a;
+            }
+            let b = transform_at(l, ix, sort, op, f, a.place, t, out, a.image);
+            let right = b.ran;
+            if !steps::is_done(right) {
+                return b;
+            }
+            let i = steps::step_of(left);
+            let j = steps::step_of(right);
+            transform_end(l, ix, sort, op, f, at, b.place, t, out, from, b.image, i, j)
+        }
+        Step::Stuck => steps::nowhere(p, q),
+    }
+}
+
 // The steps of a formula and its parts.
 pub fn transform(
     l: &mut [u8],
@@ -302,33 +412,7 @@ pub fn transform(
     requires { ⌜ Indexed (now l) (now ix) × Known sort (now f) × KnownOp op (now t) × Is sort (transformOf sort (opOf op (now t)) (treeOf sort (now f))) (now out) ⌝ }
     ensures { λ r. ⌜ Runs (book (now (l .entry)) (now (ix .entry))) (emitTransform sort (opOf op (now (t .entry))) (treeOf sort (now (f .entry)))) r (book (now (l .exit)) (now (ix .exit))) ⌝ }
 {
-    let first = Place { at: 0, pending: 1 };
-    match first.step(sort, f) {
-        Step::Leaf(_) => transform_whole(l, ix, sort, op, f, t, out, 0, 0, 0),
-        Step::Lit(_, n) => transform_literal(l, ix, sort, op, n, f, t, out),
-        Step::One(_) => {
-            let a = transform(l, ix, sort, op, &f[1..], t, &out[1..]);
-            if !steps::is_done(a) {
-                return a;
-            }
-            transform_whole(l, ix, sort, op, f, t, out, 0, steps::step_of(a), 0)
-        }
-        Step::Two(_) => {
-            let x = formula::formula_at(sort, f, 1);
-            let y = formula::formula_at(sort, out, 1);
-            let a = transform(l, ix, sort, op, x, t, y);
-            if !steps::is_done(a) {
-                return a;
-            }
-            let z = steps::behind(f, x.len());
-            let w = steps::behind(out, y.len());
-            let b = transform(l, ix, sort, op, z, t, w);
-            if !steps::is_done(b) {
-                return b;
-            }
-            let i = steps::step_of(a);
-            transform_whole(l, ix, sort, op, f, t, out, 0, i, steps::step_of(b))
-        }
-        Step::Stuck => Ran::Full,
-    }
+    let p = Place { at: 0, pending: 1 };
+    let r = transform_at(l, ix, sort, op, f, p, t, out, p);
+    r.ran
 }
