@@ -5,22 +5,30 @@ use native.Mathlib.Nat.{zero-add}
 use native.Mathlib.Numerals.{add-one}
 use mathlib.Core.Path.{_≡_, refl, sym, ap, ap₂, _∙_, subst}
 use mathlib.Core.List.{List, [], _∷_, _++_, append-assoc, append-nil}
-use lib.ListN.{length, set, length-append}
+use lib.ListN.{length, getD, set, length-append}
 use lib.Seq.{sets, length-sets}
 use borrow.Author.Tests.{eq-eqb, ne-eqb}
+use types.Run.{OneOf, miss}
+use denote.Enum.Declared.{tagOf}
+use Rattle.formula.proofs.Step.{the-type}
 use Rattle.formula.specs.Formula.{beside}
-use Rattle.formula.specs.Answers.{kindOf, treeOf}
-use Rattle.passes.specs.Passes.{Token, plain, literal, tokensOf, Whole, tokenAt, behindAt, movedTo, _⊕_, zeroSize, weighs, plainWeight, movedWeight, weightOf, Small, spell, AllTokens, FieldedAt, Wrote, movedBytes, imageOf, Rewritable, Room}
+use Rattle.formula.specs.Bytes.{Tree}
+use Rattle.formula.specs.Answers.{dimSpace, kindOf, treeOf, stepOf}
+use Rattle.passes.specs.Passes.{Token, plain, literal, tokensOf, Whole, movedTo, _⊕_, zeroSize, weighs, plainWeight, movedWeight, weightOf, Small, spell, AllTokens, FieldedAt, Wrote, movedBytes, imageOf, Rewritable}
+use Rattle.passes.specs.Stepping.{kindOver, tokenOver, DimOver, placeBy, weightOver}
 use Rattle.formula.specs.declared.Sort.{Sort}
 use Rattle.formula.specs.declared.Size.{Size}
 use Rattle.formula.specs.declared.Kind.{Kind}
 use Rattle.formula.specs.declared.Kind.the-variants.{Nullary, Literal, Unary, Binary, Unknown}
+use Rattle.formula.specs.declared.Place.{Place}
+use Rattle.formula.specs.declared.Step.{Step}
+use Rattle.formula.specs.declared.Step.the-variants.{Leaf, Lit, One, Two, Stuck}
 use Rattle.passes.specs.declared.Rule.{Rule}
 use Rattle.passes.specs.declared.Rule.the-variants.{Up, Down, Ends}
 use Rattle.passes.specs.declared.Moved.{Moved}
 use Rattle.passes.specs.declared.Moved.the-variants.{To, Hit}
 use Rattle.formula.proofs.Compare.{compare-lt, compare-eq, compare-gt, Stands, stands}
-use Rattle.passes.proofs.TokenLaws.{Rest, Read, rest-start, rest-end, rest-read, behind-pos}
+use Rattle.passes.proofs.TokenLaws.{rowTokens, Rest, Stepped, stepped-on, rest-start, row-start, rest-end, rest-step}
 
 -- where a dimension goes, by the tests of the code
 pub up-below : (k n : ℕ) → n < k → movedTo (Up k) n ≡ To n
@@ -90,65 +98,84 @@ pub small-weight : (s : Sort) (rule : Rule) (hit : Size) → Small hit → (t : 
 small-weight s rule hit h (plain b) = small-plain rule (kindOf s b)
 small-weight s rule hit h (literal b n) = small-moved (movedTo rule n) hit h
 
--- The pass that sums: what it has summed up to byte i.
-pub record Summed (s : Sort) (f : Token → Size) (l : List ℕ) (i len nodes bound : ℕ) : Type 0 where
-  pub left : List Token
-  pub rest : Rest s l i left
-  pub sum : record { len = len; nodes = nodes; bound = bound } ⊕ weighs f left ≡ weighs f (tokensOf s l)
-  pub inside : i ≤ length l
-  pub len-small : len ≤ 1022 * i
-  pub nodes-small : nodes ≤ 511 * i
+-- a step over no literal, by its variant
+pub plain-over : (b : ℕ) (x : Step) → OneOf (0 ∷ 2 ∷ 3 ∷ 4 ∷ []) (tagOf the-type x) → tokenOver b x ≡ plain b
+plain-over b (Leaf q) h = refl
+plain-over b (Lit q n) h = absurd (miss (0 ∷ 2 ∷ 3 ∷ 4 ∷ []) 1 tt h)
+plain-over b (One q) h = refl
+plain-over b (Two q) h = refl
+plain-over b Stuck h = refl
 
-pub summed-start : (s : Sort) (f : Token → Size) (l : List ℕ) → Whole s l → Summed s f l 0 0 0 0
-summed-start s f l w =
+-- what a token weighs is what the step over it says
+pub weight-over : (s : Sort) (rule : Rule) (hit : Size) (b : ℕ) (x : Step) → kindOf s b ≡ kindOver x → weightOver rule hit x ≡ weightOf s rule hit (tokenOver b x)
+weight-over s rule hit b (Leaf q) e = ap (plainWeight rule) (sym e)
+weight-over s rule hit b (Lit q n) e = refl
+weight-over s rule hit b (One q) e = ap (plainWeight rule) (sym e)
+weight-over s rule hit b (Two q) e = ap (plainWeight rule) (sym e)
+weight-over s rule hit b Stuck e = ap (plainWeight rule) (sym e)
+
+-- The pass that sums: what it has summed up to a place.
+pub record Summed (s : Sort) (rule : Rule) (hit : Size) (l : List ℕ) (p : Place) (len nodes bound : ℕ) : Type 0 where
+  pub row : List (Tree s)
+  pub rest : Rest s l p row
+  pub sum : record { len = len; nodes = nodes; bound = bound } ⊕ weighs (weightOf s rule hit) (rowTokens s row) ≡ weighs (weightOf s rule hit) (tokensOf s l)
+  pub inside : p .at ≤ length l
+  pub len-small : len ≤ 1022 * p .at
+  pub nodes-small : nodes ≤ 511 * p .at
+
+pub summed-start : (s : Sort) (rule : Rule) (hit : Size) (l : List ℕ) → Whole s l → (p : Place) → p .at ≡ 0 → p .pending ≡ 1 → Summed s rule hit l p 0 0 0
+summed-start s rule hit l w p e h =
     record {
-      left = tokensOf s l;
-      rest = rest-start s (treeOf s l) l (w .bytes);
-      sum = size-eq (omega arith) (omega arith) (omega arith);
+      row = treeOf s l ∷ [];
+      rest = rest-start s l w p e h;
+      sum = size-eq (omega arith) (omega arith) (omega arith) ∙ ap (weighs (weightOf s rule hit)) (row-start s l);
       inside = omega arith;
       len-small = omega arith;
       nodes-small = omega arith;
     }
 
-module _ (s : Sort) (f : Token → Size) (small : (t : Token) → Small (f t)) (l : List ℕ) (i len nodes bound : ℕ) (u : Summed s f l i len nodes bound) where
-  abbrev next : i < length l → Read s l i (u .left)
-  next h = rest-read s l i (u .left) (u .rest) h
+module _ {s : Sort} {rule : Rule} {hit : Size} {l : List ℕ} {p : Place} {len nodes bound : ℕ} (u : Summed s rule hit l p len nodes bound) where
+  abbrev weighed : List (Tree s) → Size
+  weighed row = weighs (weightOf s rule hit) (rowTokens s row)
 
-  pub summed-inside : i < length l → behindAt s l i ≤ length l
-  summed-inside h = next h .inside
-
-  pub summed-small : (z : Size) → z ≡ f (tokenAt s l i) → Small z
-  summed-small z e = subst Small (sym e) (small (tokenAt s l i))
-
-  summed-behind : (h : i < length l) (z : Size) → z ≡ f (tokenAt s l i) → (x y m : ℕ) → x ≡ len + z .len → y ≡ nodes + z .nodes → m ≡ max bound (z .bound) → Summed s f l (behindAt s l i) x y m
-  unfolding weighs
-  summed-behind h z e x y m ex ey em =
-      let r = next h in
-      let g = behind-pos s l i in
-      let k = summed-small z e in
-      record {
-        left = r .rest;
-        rest = r .after;
-        sum =
-            ap (λ (w : Size). w ⊕ weighs f (r .rest)) (size-eq ex ey em)
-            ∙ sum-assoc (record { len = len; nodes = nodes; bound = bound }) z (weighs f (r .rest))
-            ∙ ap (λ (w : Size). record { len = len; nodes = nodes; bound = bound } ⊕ w ⊕ weighs f (r .rest)) e
-            ∙ ap (λ (ts : List Token). record { len = len; nodes = nodes; bound = bound } ⊕ weighs f ts) (sym (r .head))
-            ∙ u .sum;
-        inside = r .inside;
-        len-small = omega (arith, u .len-small, k .len);
-        nodes-small = omega (arith, u .nodes-small, k .nodes);
-      }
-
-  pub summed-more : (h : i < length l) (z : Size) → z ≡ f (tokenAt s l i) → (j x y m : ℕ) → j ≡ behindAt s l i → x ≡ len + z .len → y ≡ nodes + z .nodes → m ≡ max bound (z .bound) → Summed s f l j x y m
-  summed-more h z e j x y m ej ex ey em = subst (λ (n : ℕ). Summed s f l n x y m) (sym ej) (summed-behind h z e x y m ex ey em)
-
-  pub summed-end : length l ≤ i → record { len = len; nodes = nodes; bound = bound } ≡ weighs f (tokensOf s l)
+  pub summed-end : p .pending ≤ 0 → record { len = len; nodes = nodes; bound = bound } ≡ weighs (weightOf s rule hit) (tokensOf s l)
   unfolding weighs
   summed-end h =
       sym (sum-zero (record { len = len; nodes = nodes; bound = bound }))
-      ∙ ap (λ (ts : List Token). record { len = len; nodes = nodes; bound = bound } ⊕ weighs f ts) (sym (rest-end s l i (u .left) (u .rest) h))
+      ∙ ap (λ (ts : List Token). record { len = len; nodes = nodes; bound = bound } ⊕ weighs (weightOf s rule hit) ts) (sym (rest-end s l p (u .row) (u .rest) (omega arith)))
       ∙ u .sum
+
+  module _ (h : 0 < p .pending) {x : Step} (e : x ≡ stepOf s l (p .at) (p .pending)) where
+    abbrev pub summed-turn : Stepped s l p (u .row) x
+    summed-turn = rest-step s l p (u .row) (u .rest) h x e
+
+    module _ (small : Small hit) {z : Size} (i : z ≡ weightOver rule hit x) where
+      weight-here : z ≡ weightOf s rule hit (tokenOver (getD l (p .at) 0) x)
+      weight-here = i ∙ weight-over s rule hit (getD l (p .at) 0) x (summed-turn .kind)
+
+      pub summed-small : Small z
+      summed-small = subst Small (sym weight-here) (small-weight s rule hit small (tokenOver (getD l (p .at) 0) x))
+
+      pub summed-more : {q : Place} → q ≡ placeBy x p → {a b m : ℕ} → a ≡ len + z .len → b ≡ nodes + z .nodes → m ≡ max bound (z .bound) → Summed s rule hit l q a b m
+      unfolding weighs
+      summed-more {q} j {a} {b} {m} ea eb em =
+          let k = summed-small in
+          let g = stepped-on summed-turn j in
+          let before : Size = record { len = len; nodes = nodes; bound = bound } in
+          let rest = summed-turn .rest in
+          record {
+            row = rest;
+            rest = subst (λ (y : Place). Rest s l y (summed-turn .rest)) (sym j) (summed-turn .after);
+            sum =
+                ap (λ (w : Size). w ⊕ weighed rest) (size-eq ea eb em)
+                ∙ sum-assoc before z (weighed rest)
+                ∙ ap (λ (w : Size). before ⊕ w ⊕ weighed rest) weight-here
+                ∙ ap (λ (ts : List Token). before ⊕ weighs (weightOf s rule hit) ts) (sym (summed-turn .head))
+                ∙ u .sum;
+            inside = g .1;
+            len-small = omega (arith, g .0, u .len-small, k .len);
+            nodes-small = omega (arith, g .0, u .nodes-small, k .nodes);
+          }
 
 -- a run of stores after another
 pub sets-append : (d : List ℕ) (i : ℕ) (l m : List ℕ) → sets (sets d i l) (i + length l) m ≡ sets d i (l ++ m)
@@ -205,58 +232,60 @@ hit-one b u v e = rw (eq-eqb b 3 e)
 pub hit-zero : (b : ℕ) (u v : List ℕ) → (b ≡ 3 → ⊥) → movedBytes b Hit u v ≡ u
 hit-zero b u v e = rw (ne-eqb b 3 e)
 
--- The pass that moves and replaces literals, up to byte i of the operand and o of the result.
-pub record Rewriting (s : Sort) (rule : Rule) (u v l d₀ d : List ℕ) (i o : ℕ) : Type 0 where
-  pub left : List Token
-  pub rest : Rest s l i left
-  pub fields : AllTokens (FieldedAt rule) left
-  pub writing : Writing (spell (imageOf rule u v) (tokensOf s l)) d₀ d o (spell (imageOf rule u v) left)
+-- The pass that moves and replaces literals, up to a place of the operand and o of the result.
+pub record Rewriting (s : Sort) (rule : Rule) (u v l d₀ d : List ℕ) (p : Place) (o : ℕ) : Type 0 where
+  pub row : List (Tree s)
+  pub rest : Rest s l p row
+  pub fields : AllTokens (FieldedAt rule) (rowTokens s row)
+  pub writing : Writing (spell (imageOf rule u v) (tokensOf s l)) d₀ d o (spell (imageOf rule u v) (rowTokens s row))
 
-pub rewriting-start : (s : Sort) (rule : Rule) (u v l d : List ℕ) → Rewritable s rule l u v (length d) → Rewriting s rule u v l d d 0 0
-rewriting-start s rule u v l d h =
+pub rewriting-start : (s : Sort) (rule : Rule) (u v l d : List ℕ) → Rewritable s rule l u v (length d) → (p : Place) → p .at ≡ 0 → p .pending ≡ 1 → Rewriting s rule u v l d d p 0
+rewriting-start s rule u v l d h p i j =
+    let f = imageOf rule u v in
     record {
-      left = tokensOf s l;
-      rest = rest-start s (treeOf s l) l (h .whole .bytes);
-      fields = h .fields;
-      writing = writing-start (spell (imageOf rule u v) (tokensOf s l)) d;
+      row = treeOf s l ∷ [];
+      rest = rest-start s l (h .whole) p i j;
+      fields = subst (AllTokens (FieldedAt rule)) (sym (row-start s l)) (h .fields);
+      writing = subst (λ (ts : List Token). Writing (spell f (tokensOf s l)) d d 0 (spell f ts)) (sym (row-start s l)) (writing-start (spell f (tokensOf s l)) d);
     }
 
-module _ (s : Sort) (rule : Rule) (u v l d₀ d : List ℕ) (i o : ℕ) (w : Rewriting s rule u v l d₀ d i o) where
-  abbrev f : Token → List ℕ
-  f = imageOf rule u v
+module _ {s : Sort} {rule : Rule} {u v l d₀ d : List ℕ} {p : Place} {o : ℕ} (w : Rewriting s rule u v l d₀ d p o) where
+  abbrev image : Token → List ℕ
+  image = imageOf rule u v
 
   pub rewriting-length : length d ≡ length d₀
-  rewriting-length = writing-length (spell f (tokensOf s l)) d₀ d o (spell f (w .left)) (w .writing)
+  rewriting-length = writing-length (spell image (tokensOf s l)) d₀ d o (spell image (rowTokens s (w .row))) (w .writing)
 
-  pub rewriting-end : length l ≤ i → Wrote d₀ 0 (spell f (tokensOf s l)) o d
+  pub rewriting-end : p .pending ≤ 0 → Wrote d₀ 0 (spell image (tokensOf s l)) o d
   unfolding spell
-  rewriting-end h = writing-end (spell f (tokensOf s l)) d₀ d o (spell f (w .left)) (w .writing) (ap (spell f) (rest-end s l i (w .left) (w .rest) h))
+  rewriting-end h = writing-end (spell image (tokensOf s l)) d₀ d o (spell image (rowTokens s (w .row))) (w .writing) (ap (spell image) (rest-end s l p (w .row) (w .rest) (omega arith)))
 
-  module _ (h : i < length l) where
-    abbrev read : Read s l i (w .left)
-    read = rest-read s l i (w .left) (w .rest) h
+  module _ (h : 0 < p .pending) {x : Step} (e : x ≡ stepOf s l (p .at) (p .pending)) where
+    abbrev pub rewriting-turn : Stepped s l p (w .row) x
+    rewriting-turn = rest-step s l p (w .row) (w .rest) h x e
 
-    image : spell f (w .left) ≡ f (tokenAt s l i) ++ spell f (read .rest)
+    abbrev token : Token
+    token = tokenOver (getD l (p .at) 0) x
+
+    image-here : spell image (rowTokens s (w .row)) ≡ image token ++ spell image (rowTokens s (rewriting-turn .rest))
     unfolding spell
-    image = ap (spell f) (read .head)
+    image-here = ap (spell image) (rewriting-turn .head)
 
-    fields-here : AllTokens (FieldedAt rule) (tokenAt s l i ∷ read .rest)
-    fields-here = subst (AllTokens (FieldedAt rule)) (read .head) (w .fields)
+    fields-here : AllTokens (FieldedAt rule) (token ∷ rowTokens s (rewriting-turn .rest))
+    fields-here = subst (AllTokens (FieldedAt rule)) (rewriting-turn .head) (w .fields)
 
-    pub rewriting-room : length (spell f (tokensOf s l)) ≤ length d₀ → Room s l i f (length d) o × FieldedAt rule (tokenAt s l i)
-    rewriting-room g = (
-      record {
-        inside = read .inside;
-        fits = writing-room (spell f (tokensOf s l)) d₀ d o (spell f (w .left)) (w .writing) (f (tokenAt s l i)) (spell f (read .rest)) image g;
-      },
+    pub rewriting-room : ((i : ℕ) → getD l i 0 < dimSpace) → length (spell image (tokensOf s l)) ≤ length d₀ → DimOver x × FieldedAt rule token × (o + length (image token) ≤ length d)
+    rewriting-room i g = (
+      rewriting-turn .field i,
       fields-here .0,
+      writing-room (spell image (tokensOf s l)) d₀ d o (spell image (rowTokens s (w .row))) (w .writing) (image token) (spell image (rowTokens s (rewriting-turn .rest))) image-here g,
     )
 
-    pub rewriting-more : (j : ℕ) → j ≡ behindAt s l i → (o′ : ℕ) (d′ : List ℕ) → Wrote d o (f (tokenAt s l i)) o′ d′ → Rewriting s rule u v l d₀ d′ j o′
-    rewriting-more j e o′ d′ x =
+    pub rewriting-more : {q : Place} → q ≡ placeBy x p → {o′ : ℕ} {d′ : List ℕ} → Wrote d o (image token) o′ d′ → Rewriting s rule u v l d₀ d′ q o′
+    rewriting-more i {o′} {d′} y =
         record {
-          left = read .rest;
-          rest = subst (λ (n : ℕ). Rest s l n (read .rest)) (sym e) (read .after);
+          row = rewriting-turn .rest;
+          rest = subst (λ (z : Place). Rest s l z (rewriting-turn .rest)) (sym i) (rewriting-turn .after);
           fields = fields-here .1;
-          writing = writing-more (spell f (tokensOf s l)) d₀ d o (spell f (w .left)) (w .writing) (f (tokenAt s l i)) (spell f (read .rest)) image o′ d′ x;
+          writing = writing-more (spell image (tokensOf s l)) d₀ d o (spell image (rowTokens s (w .row))) (w .writing) (image token) (spell image (rowTokens s (rewriting-turn .rest))) image-here o′ d′ y;
         }

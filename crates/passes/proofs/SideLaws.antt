@@ -1,7 +1,7 @@
 -- The pass that writes one side of a boundary, with its stack of ends.
 use Prim.Native.Nat.{ℕ, zero, suc, _+_, _-_, _≤_, _<_}
 use native.Mathlib.Omega.{arith}
-use native.Mathlib.Numerals.{add-one, add-two}
+use native.Mathlib.Numerals.{add-one}
 use native.Mathlib.Decide.{ℕ-discrete}
 use mathlib.Core.Path.{_≡_, refl, sym, ap, ap₂, _∙_, subst}
 use mathlib.Core.List.{List, [], _∷_, _++_, append-assoc, append-nil}
@@ -9,13 +9,17 @@ use lib.ListN.{length, getD, set, length-set, replicate}
 use lib.Seq.{getD-set-same, getD-set-other}
 use Rattle.formula.specs.Formula.{End, lo, hi, other, Interval, i0, i1, dim, neg, meet, join}
 use Rattle.formula.specs.Operations.{boundary}
-use Rattle.formula.specs.Bytes.{dimAt, encodeFace, nodeOf}
-use Rattle.formula.specs.Answers.{kindOf, treeOf}
-use Rattle.passes.specs.Passes.{Token, plain, literal, tokensInterval, tokensOf, tokenBy, tokenAt, behindAt, Room, Wrote, bit, sideBytes, pushKind, pushed, sides, endOf, stackOf, Bits, pendingBy, Pushed, Sided}
+use Rattle.formula.specs.Bytes.{dimBytes, encodeFace, nodeOf}
+use Rattle.formula.specs.Answers.{dimSpace, kindOf, treeOf, stepOf}
+use Rattle.passes.specs.Passes.{Whole, Token, plain, tokensInterval, tokensOf, Wrote, bit, plainSide, sideBytes, pushKind, pushed, sides, endOf, Sided}
+use Rattle.passes.specs.Stepping.{kindOver, tokenOver, DimOver, placeBy, stackOf, Bits, pendingBy, Pushed}
 use Rattle.formula.specs.declared.Sort.the-variants.{Intervals}
 use Rattle.formula.specs.declared.Kind.{Kind}
 use Rattle.formula.specs.declared.Kind.the-variants.{Nullary, Literal, Unary, Binary, Unknown}
-use Rattle.passes.proofs.TokenLaws.{Rest, Read, rest-start, rest-end, rest-read, behind-pos}
+use Rattle.formula.specs.declared.Place.{Place}
+use Rattle.formula.specs.declared.Step.{Step}
+use Rattle.formula.specs.declared.Step.the-variants.{Leaf, Lit, One, Two, Stuck}
+use Rattle.passes.proofs.TokenLaws.{rowTokens, Rest, Stepped, rest-start, row-start, rest-end, rest-few, rest-step}
 use Rattle.passes.proofs.PassLaws.{Writing, writing-start, writing-length, writing-room, writing-more, writing-end}
 
 -- a store above a stack's top leaves the stack
@@ -42,7 +46,7 @@ bit-end (suc zero) h = refl
 bit-end (suc (suc e)) h = absurd (omega arith)
 
 module _ (l : List ℕ) (top e : ℕ) (h : e ≤ 1) (in-array : top + 1 < length l) (here : getD l top 0 ≡ e) where
-  pub pushed-unary : Pushed Unary e l top (top + 1) (set l top (1 - e))
+  pub pushed-unary : Pushed Unary e l top (set l top (1 - e))
   unfolding stackOf
   pushed-unary =
       record {
@@ -52,21 +56,20 @@ module _ (l : List ℕ) (top e : ℕ) (h : e ≤ 1) (in-array : top + 1 < length
             ∙ ap (λ (x : End). x ∷ stackOf l top) (end-other e h);
         bits = bits-set l top (1 - e) (omega arith) (omega arith);
         size = length-set l top (1 - e);
-        count = refl;
       }
 
-  pub pushed-binary : Pushed Binary e l top (top + 2) (set l (top + 1) e)
+  pub pushed-binary : Pushed Binary e l top (set l (top + 1) e)
   unfolding stackOf
   pushed-binary =
+      let height : top + 1 + 1 ≡ suc (suc top) = omega arith in
       record {
         stack =
-            ap (stackOf (set l (top + 1) e)) (add-two top)
+            ap (stackOf (set l (top + 1) e)) height
             ∙ ap₂ (λ (x : ℕ) (es : List End). endOf x ∷ es)
             (ap (getD (set l (top + 1) e) (suc top)) refl ∙ ap (λ (n : ℕ). getD (set l (top + 1) e) n 0) (sym (add-one top)) ∙ getD-set-same l (top + 1) e 0 in-array)
             (ap₂ (λ (x : ℕ) (es : List End). endOf x ∷ es) (getD-set-other l (top + 1) top e 0 (omega arith) ∙ here) (stack-below l (top + 1) e top (omega arith)));
         bits = bits-set l (top + 1) e in-array h;
         size = length-set l (top + 1) e;
-        count = omega arith;
       }
 
 -- a node that ends an expression takes its end off the stack
@@ -77,15 +80,15 @@ Ends Unary = ⊥
 Ends Binary = ⊥
 Ends Unknown = Unit {0}
 
-pub pushed-ends : (k : Kind) → Ends k → (e : ℕ) (l : List ℕ) (top : ℕ) → Pushed k e l top top l
-pushed-ends Nullary t e l top = record { stack = refl; bits = λ b. b; size = refl; count = omega arith }
-pushed-ends Literal t e l top = record { stack = refl; bits = λ b. b; size = refl; count = omega arith }
+pub pushed-ends : (k : Kind) → Ends k → (e : ℕ) (l : List ℕ) (top : ℕ) → Pushed k e l top l
+pushed-ends Nullary t e l top = record { stack = ap (stackOf l) (omega arith); bits = λ b. b; size = refl }
+pushed-ends Literal t e l top = record { stack = ap (stackOf l) (omega arith); bits = λ b. b; size = refl }
 pushed-ends Unary t e l top = absurd t
 pushed-ends Binary t e l top = absurd t
-pushed-ends Unknown t e l top = record { stack = refl; bits = λ b. b; size = refl; count = omega arith }
+pushed-ends Unknown t e l top = record { stack = ap (stackOf l) (omega arith); bits = λ b. b; size = refl }
 
-pub pushed-as : {k k′ : Kind} {e : ℕ} {l : List ℕ} {top r : ℕ} {l′ : List ℕ} → k ≡ k′ → Pushed k e l top r l′ → Pushed k′ e l top r l′
-pushed-as {e = e} {l = l} {top = top} {r = r} {l′ = l′} i p = subst (λ (x : Kind). Pushed x e l top r l′) i p
+pub pushed-as : {k k′ : Kind} {e : ℕ} {l : List ℕ} {top : ℕ} {l′ : List ℕ} → k ≡ k′ → Pushed k e l top l′ → Pushed k′ e l top l′
+pushed-as {e = e} {l = l} {top = top} {l′ = l′} i p = subst (λ (x : Kind). Pushed x e l top l′) i p
 
 -- two expressions one after another, with the same end
 pair-sides : (b : ℕ) (e : End) (x y : List Token) (f g : List ℕ) → ((us : List Token) (es : List End) → sides (x ++ us) (e ∷ es) ≡ f ++ sides us es)
@@ -118,69 +121,30 @@ unfolding sides
 sides-whole r e =
     ap (λ (ts : List Token). sides ts (e ∷ [])) (sym (append-nil (tokensInterval r))) ∙ sides-tokens r e [] [] ∙ append-nil (encodeFace (boundary e r))
 
--- So many expressions are exactly what these tokens are.
-abbrev pub pendingToken : Token → ℕ → ℕ
-pendingToken (plain b) p = pendingBy (kindOf Intervals b) p
-pendingToken (literal b n) p = p - 1
+-- what a token becomes, where the step over it is known
+pub side-plain : (e b : ℕ) {x y : Step} → x ≡ y → tokenOver b y ≡ plain b → kindOf Intervals b ≡ kindOver x → sideBytes e (tokenOver b x) ≡ plainSide e (kindOver y) b
+side-plain e b i t k = ap (λ (z : Step). sideBytes e (tokenOver b z)) i ∙ ap (sideBytes e) t ∙ ap (λ (z : Kind). plainSide e z b) (k ∙ ap kindOver i)
 
-unfoldable pub Row : List Token → ℕ → Type 0
-Row [] p = p ≡ 0
-Row (t ∷ ts) p = (1 ≤ p) × Row ts (pendingToken t p)
+pub side-literal : (e b : ℕ) {x : Step} {q : Place} {n : ℕ} → x ≡ Lit q n → sideBytes e (tokenOver b x) ≡ (2 + e) ∷ dimBytes n
+side-literal e b i = ap (λ (z : Step). sideBytes e (tokenOver b z)) i
 
--- one expression in front of a row
-abbrev Fronts : List Token → Type 0
-Fronts ts = (us : List Token) (p : ℕ) → Row us p → Row (ts ++ us) (suc p)
+-- what a token does to the stack is what its kind does
+pushed-over : (b : ℕ) (x : Step) → kindOf Intervals b ≡ kindOver x → (e : End) (es : List End) → pushed (tokenOver b x) e es ≡ pushKind (kindOver x) e es
+pushed-over b (Leaf q) i e es = rw i
+pushed-over b (Lit q n) i e es = refl
+pushed-over b (One q) i e es = rw i
+pushed-over b (Two q) i e es = rw i
+pushed-over b Stuck i e es = rw i
 
-fronts-pair : (x y : List Token) → Fronts x → Fronts y → (us : List Token) (p : ℕ) → Row us p → Row ((x ++ y) ++ us) (suc (suc p))
-fronts-pair x y f g us p h = rw (append-assoc x y us) (f (y ++ us) (suc p) (g us p h))
-
-row-front : (r : Interval) → Fronts (tokensInterval r)
-unfolding Row tokensInterval kindOf nodeOf
-row-front i0 us p h = (omega arith, subst (Row us) (omega arith) h)
-row-front i1 us p h = (omega arith, subst (Row us) (omega arith) h)
-row-front (dim n) us p h = (omega arith, subst (Row us) (omega arith) h)
-row-front (neg r) us p h = (omega arith, row-front r us p h)
-row-front (meet r s) us p h = (omega arith, subst (Row ((tokensInterval r ++ tokensInterval s) ++ us)) (omega arith) (fronts-pair (tokensInterval r) (tokensInterval s) (row-front r) (row-front s) us p h))
-row-front (join r s) us p h = (omega arith, subst (Row ((tokensInterval r ++ tokensInterval s) ++ us)) (omega arith) (fronts-pair (tokensInterval r) (tokensInterval s) (row-front r) (row-front s) us p h))
-
-row-whole : (r : Interval) → Row (tokensInterval r) 1
-unfolding Row
-row-whole r = subst (λ (ts : List Token). Row ts 1) (append-nil (tokensInterval r)) (row-front r [] 0 refl)
-
--- The pass up to byte i of the expression and o of the face, with its stack.
-pub record Siding (goal l d₀ d ends : List ℕ) (pending i o : ℕ) : Type 0 where
-  pub left : List Token
-  pub rest : Rest Intervals l i left
-  pub row : Row left pending
+-- The pass up to a place of the expression and o of the face, with its stack.
+pub record Siding (goal l d₀ d ends : List ℕ) (p : Place) (o : ℕ) : Type 0 where
+  pub row : List Interval
+  pub rest : Rest Intervals l p row
   pub bits : Bits ends
   pub size : length ends ≡ 1024
-  pub few : pending ≤ i + 1
-  pub inside : i ≤ length l
-  pub writing : Writing goal d₀ d o (sides left (stackOf ends pending))
+  pub writing : Writing goal d₀ d o (sides (rowTokens Intervals row) (stackOf ends (p .pending)))
 
--- what a token does is what its kind does
-pushed-token : (k : Kind) (b n : ℕ) (e : End) (es : List End) → kindOf Intervals b ≡ k → pushed (tokenBy k b n) e es ≡ pushKind k e es
-pushed-token Nullary b n e es i = rw i
-pushed-token Literal b n e es i = refl
-pushed-token Unary b n e es i = rw i
-pushed-token Binary b n e es i = rw i
-pushed-token Unknown b n e es i = rw i
-
-pending-token : (k : Kind) (b n p : ℕ) → kindOf Intervals b ≡ k → pendingToken (tokenBy k b n) p ≡ pendingBy k p
-pending-token Nullary b n p i = rw i
-pending-token Literal b n p i = refl
-pending-token Unary b n p i = rw i
-pending-token Binary b n p i = rw i
-pending-token Unknown b n p i = rw i
-
-pending-few : (k : Kind) (p : ℕ) → pendingBy k p ≤ p + 1
-pending-few Nullary p = omega arith
-pending-few Literal p = omega arith
-pending-few Unary p = omega arith
-pending-few Binary p = omega arith
-pending-few Unknown p = omega arith
-
-stack-top : (l : List ℕ) (p : ℕ) → 1 ≤ p → stackOf l p ≡ endOf (getD l (p - 1) 0) ∷ stackOf l (p - 1)
+stack-top : (l : List ℕ) (p : ℕ) → 0 < p → stackOf l p ≡ endOf (getD l (p - 1) 0) ∷ stackOf l (p - 1)
 unfolding stackOf
 stack-top l zero h = absurd (omega arith)
 stack-top l (suc p) h = ap (λ (n : ℕ). endOf (getD l n 0) ∷ stackOf l n) (omega arith)
@@ -188,92 +152,71 @@ stack-top l (suc p) h = ap (λ (n : ℕ). endOf (getD l n 0) ∷ stackOf l n) (o
 abbrev pub sideGoal : List ℕ → ℕ → List ℕ
 sideGoal l e = sides (tokensOf Intervals l) (endOf e ∷ [])
 
-pub siding-start : (l d z : List ℕ) (e : ℕ) → Sided l e (length d) → length z ≡ 1024 → Bits z → Siding (sideGoal l e) l d d (set z 0 e) 1 0 0
+pub siding-start : (l d z : List ℕ) (e : ℕ) → Sided l e (length d) → length z ≡ 1024 → Bits z → (p : Place) → p .at ≡ 0 → p .pending ≡ 1 → Siding (sideGoal l e) l d d (set z 0 e) p 0
 unfolding stackOf
-siding-start l d z e h k b =
+siding-start l d z e h k b p i j =
+    let es : endOf e ∷ [] ≡ stackOf (set z 0 e) (p .pending) = sym (ap (stackOf (set z 0 e)) j ∙ ap (λ (x : ℕ). endOf x ∷ []) (getD-set-same z 0 e 0 (omega arith))) in
     record {
-      left = tokensOf Intervals l;
-      rest = rest-start Intervals (treeOf Intervals l) l (h .whole .bytes);
-      row = row-whole (treeOf Intervals l);
+      row = treeOf Intervals l ∷ [];
+      rest = rest-start Intervals l (h .whole) p i j;
       bits = bits-set z 0 e (omega arith) (h .end) b;
       size = length-set z 0 e ∙ k;
-      few = omega arith;
-      inside = omega arith;
-      writing =
-          subst (λ (x : ℕ). Writing (sideGoal l e) d d 0 (sides (tokensOf Intervals l) (endOf x ∷ []))) (sym (getD-set-same z 0 e 0 (omega arith)))
-          (writing-start (sideGoal l e) d);
+      writing = subst (Writing (sideGoal l e) d d 0) (ap₂ sides (sym (row-start Intervals l)) es) (writing-start (sideGoal l e) d);
     }
 
-module _ (goal l d₀ d ends : List ℕ) (pending i o : ℕ) (w : Siding goal l d₀ d ends pending i o) where
+module _ {goal l d₀ d ends : List ℕ} {p : Place} {o : ℕ} (w : Siding goal l d₀ d ends p o) where
+  abbrev left : List ℕ
+  left = sides (rowTokens Intervals (w .row)) (stackOf ends (p .pending))
+
   pub siding-length : length d ≡ length d₀
-  siding-length = writing-length goal d₀ d o (sides (w .left) (stackOf ends pending)) (w .writing)
+  siding-length = writing-length goal d₀ d o left (w .writing)
 
-  pub siding-end : length l ≤ i → Wrote d₀ 0 goal o d
+  pub siding-end : p .pending ≤ 0 → Wrote d₀ 0 goal o d
   unfolding sides
-  siding-end h =
-      writing-end goal d₀ d o (sides (w .left) (stackOf ends pending)) (w .writing) (ap (λ (ts : List Token). sides ts (stackOf ends pending)) (rest-end Intervals l i (w .left) (w .rest) h))
+  siding-end h = writing-end goal d₀ d o left (w .writing) (ap (λ (ts : List Token). sides ts (stackOf ends (p .pending))) (rest-end Intervals l p (w .row) (w .rest) (omega arith)))
 
-  module _ (h : i < length l) where
-    abbrev read : Read Intervals l i (w .left)
-    read = rest-read Intervals l i (w .left) (w .rest) h
+  pub siding-few : Whole Intervals l → p .pending ≤ 1022
+  siding-few h = omega (arith, rest-few Intervals l p (w .row) (w .rest), h .short)
 
-    abbrev token : Token
-    token = tokenAt Intervals l i
+  module _ (h : 0 < p .pending) {x : Step} (e : x ≡ stepOf Intervals l (p .at) (p .pending)) where
+    abbrev pub siding-turn : Stepped Intervals l p (w .row) x
+    siding-turn = rest-step Intervals l p (w .row) (w .rest) h x e
 
-    abbrev kind : Kind
-    kind = kindOf Intervals (getD l i 0)
+    abbrev byte : ℕ
+    byte = getD l (p .at) 0
 
-    row-here : Row (tokenAt Intervals l i ∷ read .rest) pending
-    row-here = subst (λ (ts : List Token). Row ts pending) (read .head) (w .row)
-
-    pub siding-pending : 1 ≤ pending
-    unfolding Row
-    siding-pending = row-here .0
+    abbrev top : ℕ
+    top = p .pending - 1
 
     abbrev here : ℕ
-    here = getD ends (pending - 1) 0
+    here = getD ends top 0
 
-    token-pushed : (e : End) (es : List End) → pushed (tokenAt Intervals l i) e es ≡ pushKind kind e es
-    unfolding tokenAt
-    token-pushed e es = pushed-token kind (getD l i 0) (dimAt l (i + 1)) e es refl
+    abbrev bytes : List ℕ
+    bytes = sideBytes here (tokenOver byte x)
 
-    token-pending : (p : ℕ) → pendingToken (tokenAt Intervals l i) p ≡ pendingBy kind p
-    unfolding tokenAt
-    token-pending p = pending-token kind (getD l i 0) (dimAt l (i + 1)) p refl
+    abbrev later : List ℕ
+    later = sides (rowTokens Intervals (siding-turn .rest)) (pushKind (kindOver x) (endOf here) (stackOf ends top))
 
-    image : sides (w .left) (stackOf ends pending) ≡ sideBytes here (tokenAt Intervals l i) ++ sides (read .rest) (pushKind kind (endOf here) (stackOf ends (pending - 1)))
+    image : left ≡ bytes ++ later
     unfolding sides
     image =
-        ap₂ sides (read .head) (stack-top ends pending siding-pending)
-        ∙ ap₂ (λ (n : ℕ) (es : List End). sideBytes n (tokenAt Intervals l i) ++ sides (read .rest) es) (bit-end here (w .bits (pending - 1))) (token-pushed (endOf here) (stackOf ends (pending - 1)))
+        ap₂ sides (siding-turn .head) (stack-top ends (p .pending) h)
+        ∙ ap₂ (λ (n : ℕ) (es : List End). sideBytes n (tokenOver byte x) ++ sides (rowTokens Intervals (siding-turn .rest)) es) (bit-end here (w .bits top)) (pushed-over byte x (siding-turn .kind) (endOf here) (stackOf ends top))
 
-    pub siding-room : length goal ≤ length d₀ → Room Intervals l i (sideBytes here) (length d) o
-    siding-room g =
-        record {
-          inside = read .inside;
-          fits =
-              writing-room goal d₀ d o (sides (w .left) (stackOf ends pending)) (w .writing) (sideBytes here (tokenAt Intervals l i))
-              (sides (read .rest) (pushKind kind (endOf here) (stackOf ends (pending - 1)))) image g;
-        }
+    pub siding-room : ((i : ℕ) → getD l i 0 < dimSpace) → length goal ≤ length d₀ → (here ≤ 1) × (kindOf Intervals byte ≡ kindOver x) × DimOver x × (o + length bytes ≤ length d)
+    siding-room i g = (w .bits top, siding-turn .kind, siding-turn .field i, writing-room goal d₀ d o left (w .writing) bytes later image g)
 
-    pub siding-more : (j : ℕ) → j ≡ behindAt Intervals l i → (o′ : ℕ) (d′ : List ℕ) → Wrote d o (sideBytes here (tokenAt Intervals l i)) o′ d′
-        → (p : ℕ) (ends′ : List ℕ) → Pushed kind here ends (pending - 1) p ends′ → Siding goal l d₀ d′ ends′ p j o′
-    unfolding Row
-    siding-more j e o′ d′ x p ends′ y =
-        let g = siding-pending in
-        let k : p ≡ pendingBy kind pending = y .count ∙ ap (pendingBy kind) (omega arith) in
+    pub siding-more : {q : Place} → q ≡ placeBy x p → {o′ : ℕ} {d′ : List ℕ} → Wrote d o bytes o′ d′ → {ends′ : List ℕ} → Pushed (kindOver x) here ends top ends′ → Siding goal l d₀ d′ ends′ q o′
+    siding-more {q} i {o′} {d′} y {ends′} z =
+        let height : q .pending ≡ pendingBy (kindOver x) (top + 1) = ap (λ (a : Place). a .pending) i ∙ siding-turn .pending ∙ ap (pendingBy (kindOver x)) (omega arith) in
         record {
-          left = read .rest;
-          rest = subst (λ (n : ℕ). Rest Intervals l n (read .rest)) (sym e) (read .after);
-          row = subst (Row (read .rest)) (token-pending pending ∙ sym k) (row-here .1);
-          bits = y .bits (w .bits);
-          size = y .size ∙ w .size;
-          few = omega (arith, pending-few kind pending, behind-pos Intervals l i, w .few);
-          inside = omega (arith, read .inside);
+          row = siding-turn .rest;
+          rest = subst (λ (a : Place). Rest Intervals l a (siding-turn .rest)) (sym i) (siding-turn .after);
+          bits = z .bits (w .bits);
+          size = z .size ∙ w .size;
           writing =
-              subst (λ (es : List End). Writing goal d₀ d′ o′ (sides (read .rest) es)) (sym (y .stack))
-              (writing-more goal d₀ d o (sides (w .left) (stackOf ends pending)) (w .writing) (sideBytes here (tokenAt Intervals l i))
-              (sides (read .rest) (pushKind kind (endOf here) (stackOf ends (pending - 1)))) image o′ d′ x);
+              subst (λ (es : List End). Writing goal d₀ d′ o′ (sides (rowTokens Intervals (siding-turn .rest)) es)) (sym (ap (stackOf ends′) height ∙ z .stack))
+              (writing-more goal d₀ d o left (w .writing) bytes later image o′ d′ y);
         }
 
 pub bits-zeros : (n : ℕ) → Bits (replicate n 0)

@@ -1,79 +1,25 @@
--- The tokens of a formula: their bytes are the formula's, and a pass reads them one after another.
+-- The tokens of a formula, and how a pass steps over them one after another.
 use Prim.Native.Nat.{ℕ, suc, _+_, _-_, _≤_, _<_}
 use native.Mathlib.Omega.{arith}
 use native.Mathlib.Numerals.{add-one}
 use mathlib.Core.Path.{_≡_, refl, sym, ap, ap₂, _∙_, subst}
-use mathlib.Core.Bool.{true, false}
-use mathlib.Core.List.{List, [], _∷_, _++_, append-assoc}
-use lib.ListN.{length, getD, drop, length-drop}
+use mathlib.Core.List.{List, [], _∷_, _++_, append-assoc, append-nil}
+use lib.ListN.{length, getD, drop, length-append, length-drop}
 use lib.Seq.{drop-cons}
+use borrow.Author.Tests.{le-leb}
 use Rattle.formula.specs.Bytes.{Tree, dimWidth, dimBytes, dimAt, encode, Node, leaf, lit, one, two, bad, nodeOf}
-use Rattle.formula.specs.Answers.{kindOf, literalKind}
-use Rattle.passes.specs.Passes.{Token, plain, literal, tokens, tokensFace, tokensInterval, tokenBy, tokenAt, spanBy, behindAt, spell, AllTokens}
+use Rattle.formula.specs.Answers.{dimSpace, kindOf, treeOf, stepBy, stepOf}
+use Rattle.passes.specs.Passes.{Whole, Token, plain, literal, tokens, tokensFace, tokensInterval, tokensOf, spell}
+use Rattle.passes.specs.Stepping.{kindOver, tokenOver, DimOver, placeBy, pendingBy}
 use Rattle.formula.specs.declared.Sort.{Sort}
 use Rattle.formula.specs.declared.Sort.the-variants.{Faces, Intervals}
 use Rattle.formula.specs.declared.Kind.{Kind}
-use Rattle.formula.specs.declared.Kind.the-variants.{Nullary, Literal, Unary, Binary, Unknown}
+use Rattle.formula.specs.declared.Kind.the-variants.{Nullary, Literal, Unary, Binary}
+use Rattle.formula.specs.declared.Place.{Place}
+use Rattle.formula.specs.declared.Step.{Step}
+use Rattle.formula.specs.declared.Step.the-variants.{Leaf, Lit, One, Two}
 use Rattle.formula.proofs.Nodes.{made-as, EachNode, each-node, tree-ind}
-
--- The bytes of a token.
-abbrev pub rawBytes : Token → List ℕ
-rawBytes (plain b) = b ∷ []
-rawBytes (literal b n) = b ∷ dimBytes n
-
--- the token of a kind
-token-by : (k : Kind) (b n : ℕ) → literalKind k ≡ false → tokenBy k b n ≡ plain b
-token-by Nullary b n e = refl
-token-by Literal b n e = cc
-token-by Unary b n e = refl
-token-by Binary b n e = refl
-token-by Unknown b n e = refl
-
-token-lit : (k : Kind) (b n : ℕ) → literalKind k ≡ true → tokenBy k b n ≡ literal b n
-token-lit Nullary b n e = cc
-token-lit Literal b n e = refl
-token-lit Unary b n e = cc
-token-lit Binary b n e = cc
-token-lit Unknown b n e = cc
-
-span-by : (k : Kind) → literalKind k ≡ false → spanBy k ≡ 1
-span-by Nullary e = refl
-span-by Literal e = cc
-span-by Unary e = refl
-span-by Binary e = refl
-span-by Unknown e = refl
-
-span-lit : (k : Kind) → literalKind k ≡ true → spanBy k ≡ 1 + dimWidth
-span-lit Nullary e = cc
-span-lit Literal e = refl
-span-lit Unary e = cc
-span-lit Binary e = cc
-span-lit Unknown e = cc
-
-span-pos : (k : Kind) → 1 ≤ spanBy k
-span-pos Nullary = omega arith
-span-pos Literal = omega arith
-span-pos Unary = omega arith
-span-pos Binary = omega arith
-span-pos Unknown = omega arith
-
-module _ (s : Sort) (l : List ℕ) (i : ℕ) where
-  pub at-plain : literalKind (kindOf s (getD l i 0)) ≡ false → tokenAt s l i ≡ plain (getD l i 0)
-  unfolding tokenAt
-  at-plain e = token-by (kindOf s (getD l i 0)) (getD l i 0) (dimAt l (i + 1)) e
-
-  pub at-literal : literalKind (kindOf s (getD l i 0)) ≡ true → tokenAt s l i ≡ literal (getD l i 0) (dimAt l (i + 1))
-  unfolding tokenAt
-  at-literal e = token-lit (kindOf s (getD l i 0)) (getD l i 0) (dimAt l (i + 1)) e
-
-  pub behind-plain : literalKind (kindOf s (getD l i 0)) ≡ false → behindAt s l i ≡ i + 1
-  behind-plain e = ap (λ (n : ℕ). i + n) (span-by (kindOf s (getD l i 0)) e)
-
-  pub behind-literal : literalKind (kindOf s (getD l i 0)) ≡ true → behindAt s l i ≡ i + 1 + dimWidth
-  behind-literal e = omega (arith, span-lit (kindOf s (getD l i 0)) e)
-
-  pub behind-pos : i < behindAt s l i
-  behind-pos = omega (arith, span-pos (kindOf s (getD l i 0)))
+use Rattle.formula.proofs.Reading.{encode-pos}
 
 -- the bytes of tokens, one list after another
 pub spell-append : (f : Token → List ℕ) (ts us : List Token) → spell f (ts ++ us) ≡ spell f ts ++ spell f us
@@ -81,15 +27,7 @@ unfolding spell
 spell-append f [] us = refl
 spell-append f (t ∷ ts) us = ap (λ (l : List ℕ). f t ++ l) (spell-append f ts us) ∙ sym (append-assoc (f t) (spell f ts) (spell f us))
 
-pub all-append : (P : Token → Type 0) (ts us : List Token) → AllTokens P ts → AllTokens P us → AllTokens P (ts ++ us)
-all-append P [] us h g = g
-all-append P (t ∷ ts) us h g = (h .0, all-append P ts us (h .1) g)
-
--- the tokens of a formula by its node, each of the kind that it is read as
-abbrev pub Proper : Sort → Token → Type 0
-Proper s (plain b) = literalKind (kindOf s b) ≡ false
-Proper s (literal b n) = literalKind (kindOf s b) ≡ true
-
+-- the tokens of a formula by its node, and the kind of the byte that it begins with
 pub record Tokens (s : Sort) (t : Tree s) (ts : List Token) (k : Kind) (b : ℕ) : Type 0 where
   pub listed : tokens s t ≡ ts
   pub kind : kindOf s b ≡ k
@@ -134,31 +72,6 @@ tokens-at Intervals b = each-node Intervals (TokensAt Intervals) tokens-interval
 pub tokens-as : (s : Sort) (b : ℕ) (k : Node (Tree s)) → nodeOf s b ≡ k → TokensAt s b k
 tokens-as s b k e = subst (TokensAt s b) e (tokens-at s b)
 
-module _ (s : Sort) where
-  -- the bytes of a formula are those of its tokens
-  pub tokens-bytes : (t : Tree s) → spell rawBytes (tokens s t) ≡ encode s t
-  unfolding spell
-  tokens-bytes =
-      tree-ind s (λ t. spell rawBytes (tokens s t) ≡ encode s t)
-      (record {
-        at-leaf = λ b t e. rw (tokens-as s b (leaf t) e .listed, made-as s b (leaf t) e .bytes);
-        at-lit = λ b n g e. rw (tokens-as s b (lit g) e n .listed, made-as s b (lit g) e n .bytes);
-        at-one = λ b u x e h. rw (tokens-as s b (one u) e x .listed, made-as s b (one u) e x .bytes) (ap (λ (l : List ℕ). b ∷ l) h);
-        at-two = λ b v x y e h i.
-            rw (tokens-as s b (two v) e x y .listed, made-as s b (two v) e x y .bytes)
-            (ap (λ (l : List ℕ). b ∷ l) (spell-append rawBytes (tokens s x) (tokens s y) ∙ ap₂ (λ (l m : List ℕ). l ++ m) h i));
-      })
-
-  pub tokens-proper : (t : Tree s) → AllTokens (Proper s) (tokens s t)
-  tokens-proper =
-      tree-ind s (λ t. AllTokens (Proper s) (tokens s t))
-      (record {
-        at-leaf = λ b t e. let k = tokens-as s b (leaf t) e in rw (k .listed) (ap literalKind (k .kind), tt);
-        at-lit = λ b n g e. let k = tokens-as s b (lit g) e n in rw (k .listed) (ap literalKind (k .kind), tt);
-        at-one = λ b u x e h. let k = tokens-as s b (one u) e x in rw (k .listed) (ap literalKind (k .kind), h);
-        at-two = λ b v x y e h i. let k = tokens-as s b (two v) e x y in rw (k .listed) (ap literalKind (k .kind), all-append (Proper s) (tokens s x) (tokens s y) h i);
-      })
-
 -- a byte in front of a list's rest
 drop-next : (l : List ℕ) (i b : ℕ) (m : List ℕ) → drop i l ≡ b ∷ m → (i < length l) × (getD l i 0 ≡ b) × (drop (i + 1) l ≡ m)
 drop-next l i b m e =
@@ -176,49 +89,135 @@ drop-next l i b m e =
 dim-next : (l : List ℕ) (i n : ℕ) (m : List ℕ) → drop i l ≡ dimBytes n ++ m → (i + dimWidth ≤ length l) × (dimAt l i ≡ n) × (drop (i + dimWidth) l ≡ m)
 dim-next l i n m e = let h = drop-next l i n m e in (omega (arith, h .0), h .1, h .2)
 
--- The tokens that a pass has still to read from byte i on.
-pub record Rest (s : Sort) (l : List ℕ) (i : ℕ) (ts : List Token) : Type 0 where
-  pub bytes : drop i l ≡ spell rawBytes ts
-  pub proper : AllTokens (Proper s) ts
+-- The bytes and the tokens of a row of formulas.
+unfoldable pub rowBytes : (s : Sort) → List (Tree s) → List ℕ
+rowBytes s [] = []
+rowBytes s (t ∷ ts) = encode s t ++ rowBytes s ts
 
--- The token at byte i is the first of them, and the others come behind it.
-pub record Read (s : Sort) (l : List ℕ) (i : ℕ) (ts : List Token) : Type 0 where
-  pub rest : List Token
-  pub head : ts ≡ tokenAt s l i ∷ rest
-  pub inside : behindAt s l i ≤ length l
-  pub after : Rest s l (behindAt s l i) rest
+unfoldable pub rowTokens : (s : Sort) → List (Tree s) → List Token
+rowTokens s [] = []
+rowTokens s (t ∷ ts) = tokens s t ++ rowTokens s ts
 
-pub rest-start : (s : Sort) (t : Tree s) (l : List ℕ) → encode s t ≡ l → Rest s l 0 (tokens s t)
-rest-start s t l e = record { bytes = sym (tokens-bytes s t ∙ e); proper = tokens-proper s t }
+row-few : (s : Sort) (row : List (Tree s)) → length row ≤ length (rowBytes s row)
+unfolding rowBytes
+row-few s [] = omega arith
+row-few s (t ∷ ts) = omega (arith, length-append (encode s t) (rowBytes s ts), encode-pos s t, row-few s ts)
 
-module _ (s : Sort) (l : List ℕ) (i : ℕ) where
-  pub rest-end : (ts : List Token) → Rest s l i ts → length l ≤ i → ts ≡ []
-  unfolding spell
-  rest-end [] r h = refl
-  rest-end (plain b ∷ ts) r h = absurd (omega (arith, drop-next l i b (spell rawBytes ts) (r .bytes) .0))
-  rest-end (literal b n ∷ ts) r h = absurd (omega (arith, drop-next l i b (dimBytes n ++ spell rawBytes ts) (r .bytes) .0))
+-- From a place on the list is the row of the formulas that are pending there.
+pub record Rest (s : Sort) (l : List ℕ) (p : Place) (row : List (Tree s)) : Type 0 where
+  pub bytes : drop (p .at) l ≡ rowBytes s row
+  pub count : p .pending ≡ length row
 
-  pub rest-read : (ts : List Token) → Rest s l i ts → i < length l → Read s l i ts
-  unfolding spell
-  rest-read [] r h = absurd (omega (arith, length-drop i l, ap length (r .bytes)))
-  rest-read (plain b ∷ ts) r h =
-      let d = drop-next l i b (spell rawBytes ts) (r .bytes) in
-      let k : literalKind (kindOf s (getD l i 0)) ≡ false = ap (λ (x : ℕ). literalKind (kindOf s x)) (d .1) ∙ r .proper .0 in
-      let p = behind-plain s l i k in
-      record {
+-- The step goes over the first token of the row, to where the others come.
+pub record Stepped (s : Sort) (l : List ℕ) (p : Place) (row : List (Tree s)) (x : Step) : Type 0 where
+  pub rest : List (Tree s)
+  pub head : rowTokens s row ≡ tokenOver (getD l (p .at) 0) x ∷ rowTokens s rest
+  pub kind : kindOf s (getD l (p .at) 0) ≡ kindOver x
+  pub field : ((i : ℕ) → getD l i 0 < dimSpace) → DimOver x
+  pub after : Rest s l (placeBy x p) rest
+  pub forward : p .at < placeBy x p .at
+  pub inside : placeBy x p .at ≤ length l
+  pub pending : placeBy x p .pending ≡ pendingBy (kindOver x) (p .pending)
+
+pub stepped-on : {s : Sort} {l : List ℕ} {p : Place} {row : List (Tree s)} {x : Step} → Stepped s l p row x → {q : Place} → q ≡ placeBy x p → (p .at < q .at) × (q .at ≤ length l)
+stepped-on t i = let h = ap (λ (q : Place). q .at) i in (omega (arith, t .forward), omega (arith, t .inside))
+
+pub rest-start : (s : Sort) (l : List ℕ) → Whole s l → (p : Place) → p .at ≡ 0 → p .pending ≡ 1 → Rest s l p (treeOf s l ∷ [])
+unfolding rowBytes
+rest-start s l w p e h = record { bytes = ap (λ (i : ℕ). drop i l) e ∙ sym (append-nil (encode s (treeOf s l)) ∙ w .bytes); count = h }
+
+pub row-start : (s : Sort) (l : List ℕ) → rowTokens s (treeOf s l ∷ []) ≡ tokensOf s l
+unfolding rowTokens
+row-start s l = append-nil (tokensOf s l)
+
+pub rest-end : (s : Sort) (l : List ℕ) (p : Place) (row : List (Tree s)) → Rest s l p row → p .pending ≡ 0 → rowTokens s row ≡ []
+unfolding rowTokens
+rest-end s l p [] r e = refl
+rest-end s l p (t ∷ ts) r e = absurd (omega (arith, r .count))
+
+-- A step over a node that is no literal.
+record Plain {A : Type 0} (l : List ℕ) (p : Place) (k : Node A) (x : Step) : Type 0 where
+  step : stepBy k l (p .at) (p .pending) ≡ x
+  token : (b : ℕ) → tokenOver b x ≡ plain b
+  field : DimOver x
+  place : placeBy x p ≡ record { at = p .at + 1; pending = pendingBy (kindOver x) (p .pending) }
+
+module _ (s : Sort) (l : List ℕ) (p : Place) where
+  -- each pending formula takes a byte or more
+  pub rest-few : (row : List (Tree s)) → Rest s l p row → p .pending ≤ length l - p .at
+  rest-few row r = omega (arith, r .count, row-few s row, ap length (r .bytes), length-drop (p .at) l)
+
+  module _ (t : Tree s) (ts : List (Tree s)) (r : Rest s l p (t ∷ ts)) (b : ℕ) (k : Node (Tree s)) (e : nodeOf s b ≡ k) where
+    step-at : getD l (p .at) 0 ≡ b → stepOf s l (p .at) (p .pending) ≡ stepBy k l (p .at) (p .pending)
+    step-at i =
+        let h : 1 ≤ p .pending = omega (arith, r .count) in
+        simp (le-leb 1 (p .pending) h, le-leb (p .pending) (length l - p .at) (rest-few (t ∷ ts) r))
+        (ap (λ (x : Node (Tree s)). stepBy x l (p .at) (p .pending)) (ap (nodeOf s) i ∙ e))
+
+    over-plain : (x : Step) → Plain l p k x → kindOf s b ≡ kindOver x → (us : List (Tree s)) → encode s t ++ rowBytes s ts ≡ b ∷ rowBytes s us → tokens s t ++ rowTokens s ts ≡ plain b ∷ rowTokens s us
+        → pendingBy (kindOver x) (p .pending) ≡ length us → Stepped s l p (t ∷ ts) (stepOf s l (p .at) (p .pending))
+    unfolding rowBytes rowTokens
+    over-plain x n kind us bytes listed count =
+        let d = drop-next l (p .at) b (rowBytes s us) (r .bytes ∙ bytes) in
+        let q = n .place in
+        subst (Stepped s l p (t ∷ ts)) (sym (step-at (d .1) ∙ n .step))
+        (record {
+          rest = us;
+          head = listed ∙ ap (λ (y : Token). y ∷ rowTokens s us) (ap plain (sym (d .1)) ∙ sym (n .token (getD l (p .at) 0)));
+          kind = ap (kindOf s) (d .1) ∙ kind;
+          field = λ h. n .field;
+          after = subst (λ (y : Place). Rest s l y us) (sym q) (record { bytes = d .2; count = count });
+          forward = omega (arith, ap (λ (y : Place). y .at) q);
+          inside = omega (arith, ap (λ (y : Place). y .at) q, d .0);
+          pending = ap (λ (y : Place). y .pending) q;
+        })
+
+  over-literal : (t : Tree s) (ts : List (Tree s)) → Rest s l p (t ∷ ts) → (b n : ℕ) (g : ℕ → Tree s) → nodeOf s b ≡ lit g → encode s t ≡ b ∷ dimBytes n → tokens s t ≡ literal b n ∷ [] → kindOf s b ≡ Literal
+      → Stepped s l p (t ∷ ts) (stepOf s l (p .at) (p .pending))
+  unfolding rowBytes rowTokens
+  over-literal t ts r b n g e bytes listed kind =
+      let d = drop-next l (p .at) b (dimBytes n ++ rowBytes s ts) (r .bytes ∙ ap (λ (m : List ℕ). m ++ rowBytes s ts) bytes) in
+      let f = dim-next l (p .at + 1) n (rowBytes s ts) (d .2) in
+      let h : dimWidth ≤ length l - (p .at + 1) = omega (arith, f .0) in
+      let x = Lit (record { at = p .at + 1 + dimWidth; pending = p .pending - 1 }) (dimAt l (p .at + 1)) in
+      let i : stepBy (lit g) l (p .at) (p .pending) ≡ x = simp (le-leb dimWidth (length l - (p .at + 1)) h) in
+      subst (Stepped s l p (t ∷ ts)) (sym (step-at t ts r b (lit g) e (d .1) ∙ i))
+      (record {
         rest = ts;
-        head = ap (λ (t : Token). t ∷ ts) (sym (at-plain s l i k ∙ ap plain (d .1)));
-        inside = omega (arith, d .0);
-        after = record { bytes = ap (λ (n : ℕ). drop n l) p ∙ d .2; proper = r .proper .1 };
-      }
-  rest-read (literal b n ∷ ts) r h =
-      let d = drop-next l i b (dimBytes n ++ spell rawBytes ts) (r .bytes) in
-      let f = dim-next l (i + 1) n (spell rawBytes ts) (d .2) in
-      let k : literalKind (kindOf s (getD l i 0)) ≡ true = ap (λ (x : ℕ). literalKind (kindOf s x)) (d .1) ∙ r .proper .0 in
-      let p = behind-literal s l i k in
-      record {
-        rest = ts;
-        head = ap (λ (t : Token). t ∷ ts) (sym (at-literal s l i k ∙ ap₂ literal (d .1) (f .1)));
-        inside = omega (arith, f .0);
-        after = record { bytes = ap (λ (n : ℕ). drop n l) p ∙ f .2; proper = r .proper .1 };
-      }
+        head = ap (λ (us : List Token). us ++ rowTokens s ts) listed ∙ ap₂ (λ (c m : ℕ). literal c m ∷ rowTokens s ts) (sym (d .1)) (sym (f .1));
+        kind = ap (kindOf s) (d .1) ∙ kind;
+        field = λ j. j (p .at + 1);
+        after = record { bytes = f .2; count = omega (arith, r .count) };
+        forward = omega arith;
+        inside = f .0;
+        pending = refl;
+      })
+
+  step-from : (t : Tree s) (ts : List (Tree s)) → Rest s l p (t ∷ ts) → Stepped s l p (t ∷ ts) (stepOf s l (p .at) (p .pending))
+  unfolding rowBytes rowTokens
+  step-from =
+      tree-ind s (λ t. (ts : List (Tree s)) → Rest s l p (t ∷ ts) → Stepped s l p (t ∷ ts) (stepOf s l (p .at) (p .pending)))
+      (record {
+        at-leaf = λ b t e ts r.
+            let k = tokens-as s b (leaf t) e in
+            over-plain t ts r b (leaf t) e (Leaf (record { at = p .at + 1; pending = p .pending - 1 })) (record { step = refl; token = λ c. refl; field = tt; place = refl }) (k .kind) ts
+            (ap (λ (m : List ℕ). m ++ rowBytes s ts) (made-as s b (leaf t) e .bytes)) (ap (λ (us : List Token). us ++ rowTokens s ts) (k .listed)) (omega (arith, r .count));
+        at-lit = λ b n g e ts r.
+            let k = tokens-as s b (lit g) e n in
+            over-literal (g n) ts r b n g e (made-as s b (lit g) e n .bytes) (k .listed) (k .kind);
+        at-one = λ b u y e h ts r.
+            let k = tokens-as s b (one u) e y in
+            over-plain (u y) ts r b (one u) e (One (record { at = p .at + 1; pending = p .pending })) (record { step = refl; token = λ c. refl; field = tt; place = refl }) (k .kind) (y ∷ ts)
+            (ap (λ (m : List ℕ). m ++ rowBytes s ts) (made-as s b (one u) e y .bytes)) (ap (λ (us : List Token). us ++ rowTokens s ts) (k .listed)) (r .count);
+        at-two = λ b v y z e h i ts r.
+            let k = tokens-as s b (two v) e y z in
+            over-plain (v y z) ts r b (two v) e (Two (record { at = p .at + 1; pending = p .pending + 1 })) (record { step = refl; token = λ c. refl; field = tt; place = refl }) (k .kind) (y ∷ z ∷ ts)
+            (ap (λ (m : List ℕ). m ++ rowBytes s ts) (made-as s b (two v) e y z .bytes) ∙ ap (λ (m : List ℕ). b ∷ m) (append-assoc (encode s y) (encode s z) (rowBytes s ts)))
+            (ap (λ (us : List Token). us ++ rowTokens s ts) (k .listed) ∙ ap (λ (us : List Token). plain b ∷ us) (append-assoc (tokens s y) (tokens s z) (rowTokens s ts)))
+            (omega (arith, r .count));
+      })
+
+  -- where formulas are pending, a step is not stuck
+  pub rest-step : (row : List (Tree s)) → Rest s l p row → 0 < p .pending → (x : Step) → x ≡ stepOf s l (p .at) (p .pending) → Stepped s l p row x
+  rest-step [] r h x e = absurd (omega (arith, r .count))
+  rest-step (t ∷ ts) r h x e = subst (Stepped s l p (t ∷ ts)) (sym e) (step-from t ts r)

@@ -6,7 +6,7 @@ use lib.Dec.{eqb}
 use lib.ListN.{length, getD}
 use lib.Seq.{sets}
 use Rattle.formula.specs.Formula.{End, lo, hi, other, Face, ff, ft, at, fand, for, Interval, i0, i1, dim, neg, meet, join, beside, raised}
-use Rattle.formula.specs.Bytes.{Tree, dimWidth, dimBytes, dimAt, encode}
+use Rattle.formula.specs.Bytes.{Tree, dimWidth, dimBytes, encode}
 use Rattle.formula.specs.Answers.{pick, dimSpace, kindOf, treeOf}
 use Rattle.formula.specs.declared.Sort.{Sort}
 use Rattle.formula.specs.declared.Sort.the-variants.{Faces, Intervals}
@@ -50,28 +50,6 @@ tokens Intervals r = tokensInterval r
 
 abbrev pub tokensOf : Sort → List ℕ → List Token
 tokensOf s l = tokens s (treeOf s l)
-
--- the token whose bytes start at a place, and how many they are
-abbrev pub tokenBy : Kind → ℕ → ℕ → Token
-tokenBy Nullary b n = plain b
-tokenBy Literal b n = literal b n
-tokenBy Unary b n = plain b
-tokenBy Binary b n = plain b
-tokenBy Unknown b n = plain b
-
-unfoldable pub tokenAt : Sort → List ℕ → ℕ → Token
-tokenAt s l i = tokenBy (kindOf s (getD l i 0)) (getD l i 0) (dimAt l (i + 1))
-
-abbrev pub spanBy : Kind → ℕ
-spanBy Nullary = 1
-spanBy Literal = 1 + dimWidth
-spanBy Unary = 1
-spanBy Binary = 1
-spanBy Unknown = 1
-
--- the place behind a token
-abbrev pub behindAt : Sort → List ℕ → ℕ → ℕ
-behindAt s l i = i + spanBy (kindOf s (getD l i 0))
 
 -- where a dimension goes: to another, or it is the one that is replaced
 abbrev pub movedTo : Rule → ℕ → Moved
@@ -143,11 +121,6 @@ abbrev pub AllTokens : (Token → Type 0) → List Token → Type 0
 AllTokens P [] = Unit {0}
 AllTokens P (t ∷ ts) = P t × AllTokens P ts
 
--- the token at a place of s, and room for its bytes at o of n
-pub record Room (s : Sort) (l : List ℕ) (i : ℕ) (f : Token → List ℕ) (n o : ℕ) : Type 0 where
-  pub inside : behindAt s l i ≤ length l
-  pub fits : o + length (f (tokenAt s l i)) ≤ n
-
 -- bytes stand in a list from o on, and the place behind them is answered
 pub record Wrote (d : List ℕ) (o : ℕ) (bytes : List ℕ) (r : ℕ) (d′ : List ℕ) : Type 0 where
   pub next : r ≡ o + length bytes
@@ -190,31 +163,10 @@ sides [] es = []
 sides (t ∷ ts) [] = []
 sides (t ∷ ts) (e ∷ es) = sideBytes (bit e) t ++ sides ts (pushed t e es)
 
--- the stack in an array: the ends of its first n bytes, the last on top
+-- an end as a byte
 abbrev pub endOf : ℕ → End
 endOf zero = lo
 endOf (suc n) = hi
-
-unfoldable pub stackOf : List ℕ → ℕ → List End
-stackOf l zero = []
-stackOf l (suc n) = endOf (getD l n 0) ∷ stackOf l n
-
-abbrev pub Bits : List ℕ → Type 0
-Bits l = (i : ℕ) → getD l i 0 ≤ 1
-
--- how many expressions are to come after a node, of those that were to come before it
-abbrev pub pendingBy : Kind → ℕ → ℕ
-pendingBy Nullary p = p - 1
-pendingBy Literal p = p - 1
-pendingBy Unary p = p
-pendingBy Binary p = p + 1
-pendingBy Unknown p = p - 1
-
-pub record Pushed (k : Kind) (e : ℕ) (l : List ℕ) (top r : ℕ) (l′ : List ℕ) : Type 0 where
-  pub stack : stackOf l′ r ≡ pushKind k (endOf e) (stackOf l top)
-  pub bits : Bits l → Bits l′
-  pub size : length l′ ≡ length l
-  pub count : r ≡ pendingBy k (top + 1)
 
 pub record Sided (l : List ℕ) (e n : ℕ) : Type 0 where
   pub whole : Whole Intervals l

@@ -2,13 +2,25 @@
 use crate::Moved;
 use crate::Rule;
 use crate::weighing;
+use formula::Place;
 use formula::Sort;
+use formula::Step;
 ghost use Prim.Native.Nat.{_+_, _≤_, _<_};
-ghost use mathlib.Core.List.{_∷_};
+ghost use mathlib.Core.List.{[], _∷_};
 ghost use lib.ListN.{length};
 ghost use Rattle.formula.specs.Bytes.{dimBytes};
 ghost use Rattle.formula.specs.Answers.{dimSpace};
-ghost use Rattle.passes.specs.Passes.{movedTo, movedBytes, imageOf, tokenAt, tokensOf, Fielded, FieldedAt, Room, Rewritable, Wrote, spell};
+ghost use Rattle.passes.specs.Passes.{movedTo, movedBytes, imageOf, tokensOf, Fielded, FieldedAt, Rewritable, Wrote, spell};
+ghost use Rattle.passes.specs.Stepping.{tokenOver, DimOver};
+
+// One byte, written at `o`; answers the place after it.
+pub(crate) fn byte_out(b: u8, out: &mut [u8], o: usize) -> usize
+    requires { ⌜ o < length (now out) ⌝ }
+    ensures { λ r. ⌜ Wrote (now (out .entry)) o (b ∷ []) r (now (out .exit)) ⌝ }
+{
+    out[o] = b;
+    o + 1
+}
 
 // A literal's kind byte and dimension, written at `o`; answers the place after them.
 pub(crate) fn bytes_out(b: u8, n: usize, out: &mut [u8], o: usize) -> usize
@@ -53,27 +65,15 @@ fn literal_out(
     }
 }
 
-// What the node at `at` becomes, written at `o`; answers the place after it.
-fn node_out(
-    sort: Sort,
-    s: &[u8],
-    at: usize,
-    rule: Rule,
-    zero: &[u8],
-    one: &[u8],
-    out: &mut [u8],
-    o: usize,
-) -> usize
-    requires { ⌜ Room sort (now s) at (imageOf rule (now zero) (now one)) (length (now out)) o × FieldedAt rule (tokenAt sort (now s) at) ⌝ }
-    ensures { λ r. ⌜ Wrote (now (out .entry)) o (imageOf rule (now (zero .entry)) (now (one .entry)) (tokenAt sort (now (s .entry)) at)) r (now (out .exit)) ⌝ }
+// What the node of kind byte b becomes that a step went over, written at `o`; answers the place after it.
+fn node_out(b: u8, x: Step, rule: Rule, zero: &[u8], one: &[u8], out: &mut [u8], o: usize) -> usize
+    requires { ⌜ DimOver x × FieldedAt rule (tokenOver b x) × (o + length (imageOf rule (now zero) (now one) (tokenOver b x)) ≤ length (now out)) ⌝ }
+    ensures { λ r. ⌜ Wrote (now (out .entry)) o (imageOf rule (now (zero .entry)) (now (one .entry)) (tokenOver b x)) r (now (out .exit)) ⌝ }
 {
-    let b = s[at];
-    if formula::is_literal(sort, b) {
-        let n = formula::dim_at(s, at + 1);
+    if let Step::Lit(_, n) = x {
         return literal_out(b, n, rule, zero, one, out, o);
     }
-    out[o] = b;
-    o + 1
+    byte_out(b, out, o)
 }
 
 // The formula with its literals moved by the rule, and those that it hits replaced by their side's formula.
@@ -81,11 +81,13 @@ pub fn rewrite(sort: Sort, s: &[u8], rule: Rule, zero: &[u8], one: &[u8], out: &
     requires { ⌜ Rewritable sort rule (now s) (now zero) (now one) (length (now out)) ⌝ }
     ensures { λ r. ⌜ Wrote (now (out .entry)) 0 (spell (imageOf rule (now (zero .entry)) (now (one .entry))) (tokensOf sort (now (s .entry)))) r (now (out .exit)) ⌝ }
 {
-    let mut at = 0;
+    let mut p = Place::start(0);
     let mut o = 0;
-    while at < s.len() {
-        o = node_out(sort, s, at, rule, zero, one, out, o);
-        at = weighing::behind(sort, s, at);
+    while 0 < p.pending {
+        let at = p.at;
+        let x = p.step(sort, s);
+        o = node_out(s[at], x, rule, zero, one, out, o);
+        p = weighing::place_by(x, p);
     }
     o
 }

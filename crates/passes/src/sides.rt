@@ -2,24 +2,17 @@
 // a stack keeps the side of each expression that is still to come.
 use crate::rewriting;
 use crate::weighing;
-use formula::Kind;
+use formula::Place;
 use formula::Sort;
+use formula::Step;
 ghost use mathlib.Core.Path.{_≡_};
 ghost use mathlib.Core.List.{[], _∷_};
 ghost use Prim.Native.Nat.{_+_, _-_, _≤_, _<_};
 ghost use lib.Dec.{eqb};
 ghost use lib.ListN.{length, getD};
-ghost use Rattle.formula.specs.Answers.{pick};
-ghost use Rattle.passes.specs.Passes.{plainSide, sideBytes, tokenAt, tokensOf, sides, endOf, Room, Wrote, Pushed, Sided};
-
-// One byte, written at `o`; answers the place after it.
-fn byte_out(b: u8, out: &mut [u8], o: usize) -> usize
-    requires { ⌜ o < length (now out) ⌝ }
-    ensures { λ r. ⌜ Wrote (now (out .entry)) o (b ∷ []) r (now (out .exit)) ⌝ }
-{
-    out[o] = b;
-    o + 1
-}
+ghost use Rattle.formula.specs.Answers.{pick, kindOf};
+ghost use Rattle.passes.specs.Passes.{sideBytes, tokensOf, sides, endOf, Wrote, Sided};
+ghost use Rattle.passes.specs.Stepping.{kindOver, tokenOver, DimOver, Pushed};
 
 // The side e of i0 or i1: ft where the interval is that end, else ff.
 fn leaf_side(b: u8, e: u8) -> u8
@@ -43,50 +36,32 @@ fn pair_side(b: u8, e: u8) -> u8
     4 + e
 }
 
-// What a node that is no literal becomes at the side e; a negation becomes nothing.
-fn plain_out(kind: Kind, b: u8, e: u8, out: &mut [u8], o: usize) -> usize
-    requires { ⌜ (e ≤ 1) × (o + length (plainSide e kind b) ≤ length (now out)) ⌝ }
-    ensures { λ r. ⌜ Wrote (now (out .entry)) o (plainSide e kind b) r (now (out .exit)) ⌝ }
+// What the node of kind byte b becomes at the side e that a step went over, written at `o`; a negation becomes nothing.
+// Answers the place after it.
+fn side_out(b: u8, x: Step, e: u8, out: &mut [u8], o: usize) -> usize
+    requires { ⌜ (e ≤ 1) × (kindOf Sort.Intervals b ≡ kindOver x) × DimOver x × (o + length (sideBytes e (tokenOver b x)) ≤ length (now out)) ⌝ }
+    ensures { λ r. ⌜ Wrote (now (out .entry)) o (sideBytes e (tokenOver b x)) r (now (out .exit)) ⌝ }
 {
-    match kind {
-        Kind::Nullary => byte_out(leaf_side(b, e), out, o),
-        Kind::Binary => byte_out(pair_side(b, e), out, o),
-        Kind::Literal => o,
-        Kind::Unary => o,
-        Kind::Unknown => o,
+    match x {
+        Step::Leaf(_) => rewriting::byte_out(leaf_side(b, e), out, o),
+        Step::Lit(_, n) => rewriting::bytes_out(2 + e, n, out, o),
+        Step::One(_) => o,
+        Step::Two(_) => rewriting::byte_out(pair_side(b, e), out, o),
+        Step::Stuck => o,
     }
 }
 
-// What the node at `at` becomes at the side e, written at `o`; answers the place after it.
-fn side_out(s: &[u8], at: usize, e: u8, out: &mut [u8], o: usize) -> usize
-    requires { ⌜ (e ≤ 1) × Room Sort.Intervals (now s) at (sideBytes e) (length (now out)) o ⌝ }
-    ensures { λ r. ⌜ Wrote (now (out .entry)) o (sideBytes e (tokenAt Sort.Intervals (now (s .entry)) at)) r (now (out .exit)) ⌝ }
-{
-    let b = s[at];
-    if formula::is_literal(Sort::Intervals, b) {
-        let n = formula::dim_at(s, at + 1);
-        return rewriting::bytes_out(2 + e, n, out, o);
-    }
-    plain_out(formula::kind_of(Sort::Intervals, b), b, e, out, o)
-}
-
-// The stack behind a node of this kind, at whose top e stands at place `top`; answers how many ends it then holds.
-fn push(kind: Kind, e: u8, ends: &mut [u8; 1024], top: usize) -> usize
+// The stack behind the node that a step went over, at whose top e stands at place `top`.
+fn push(x: Step, e: u8, ends: &mut [u8; 1024], top: usize)
     requires { ⌜ (e ≤ 1) × (top + 1 < 1024) × (length (now ends) ≡ 1024) × (getD (now ends) top 0 ≡ e) ⌝ }
-    ensures { λ r. ⌜ Pushed kind e (now (ends .entry)) top r (now (ends .exit)) ⌝ }
+    ensures { λ _. ⌜ Pushed (kindOver x) e (now (ends .entry)) top (now (ends .exit)) ⌝ }
 {
-    match kind {
-        Kind::Unary => {
-            ends[top] = 1 - e;
-            top + 1
-        }
-        Kind::Binary => {
-            ends[top + 1] = e;
-            top + 2
-        }
-        Kind::Nullary => top,
-        Kind::Literal => top,
-        Kind::Unknown => top,
+    match x {
+        Step::One(_) => ends[top] = 1 - e,
+        Step::Two(_) => ends[top + 1] = e,
+        Step::Leaf(_) => {}
+        Step::Lit(_, _) => {}
+        Step::Stuck => {}
     }
 }
 
@@ -97,16 +72,16 @@ pub fn side(s: &[u8], e: u8, out: &mut [u8]) -> usize
 {
     let mut ends = [0u8; 1024];
     ends[0] = e;
-    let mut pending: usize = 1;
-    let mut at = 0;
+    let mut p = Place::start(0);
     let mut o = 0;
-    while at < s.len() {
-        let top = pending - 1;
+    while 0 < p.pending {
+        let at = p.at;
+        let top = p.pending - 1;
         let here = ends[top];
-        let kind = formula::kind_of(Sort::Intervals, s[at]);
-        o = side_out(s, at, here, out, o);
-        pending = push(kind, here, &mut ends, top);
-        at = weighing::behind(Sort::Intervals, s, at);
+        let x = p.step(Sort::Intervals, s);
+        o = side_out(s[at], x, here, out, o);
+        push(x, here, &mut ends, top);
+        p = weighing::place_by(x, p);
     }
     o
 }

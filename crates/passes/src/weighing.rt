@@ -2,13 +2,15 @@
 use crate::Moved;
 use crate::Rule;
 use formula::Kind;
+use formula::Place;
 use formula::Size;
 use formula::Sort;
+use formula::Step;
 ghost use mathlib.Core.Path.{_≡_};
-ghost use Prim.Native.Nat.{_≤_, _<_};
-ghost use lib.ListN.{length};
+ghost use Prim.Native.Nat.{_<_};
 ghost use Rattle.formula.specs.Answers.{dimSpace};
-ghost use Rattle.passes.specs.Passes.{movedTo, plainWeight, movedWeight, weightOf, weighs, tokenAt, tokensOf, behindAt, Whole, Small};
+ghost use Rattle.passes.specs.Passes.{movedTo, plainWeight, movedWeight, weightOf, weighs, tokensOf, Whole, Small};
+ghost use Rattle.passes.specs.Stepping.{placeBy, DimOver, weightOver};
 
 // Where dimension n goes.
 pub(crate) fn move_dim(rule: Rule, n: usize) -> Moved
@@ -44,15 +46,17 @@ fn lowered(k: usize, n: usize) -> Moved
     Moved::To(n - 1)
 }
 
-// The place behind the node at `at`.
-pub(crate) fn behind(sort: Sort, s: &[u8], at: usize) -> usize
-    requires { ⌜ at < length (now s) ⌝ }
-    ensures { λ r. ⌜ r ≡ behindAt sort (now (s .entry)) at ⌝ }
+// The place that a step led to.
+pub(crate) fn place_by(x: Step, p: Place) -> Place
+    ensures { λ r. ⌜ r ≡ placeBy x p ⌝ }
 {
-    if formula::is_literal(sort, s[at]) {
-        return at + 1 + formula::DIM;
+    match x {
+        Step::Leaf(q) => q,
+        Step::Lit(q, _) => q,
+        Step::One(q) => q,
+        Step::Two(q) => q,
+        Step::Stuck => p,
     }
-    at + 1
 }
 
 fn ends_weight(kind: Kind) -> Size
@@ -119,17 +123,18 @@ fn literal_weight(rule: Rule, n: usize, hit: Size) -> Size
     }
 }
 
-// The size of what the node at `at` becomes.
-fn weight(sort: Sort, s: &[u8], at: usize, rule: Rule, hit: Size) -> Size
-    requires { ⌜ behindAt sort (now s) at ≤ length (now s) ⌝ }
-    ensures { λ r. ⌜ r ≡ weightOf sort rule hit (tokenAt sort (now (s .entry)) at) ⌝ }
+// The size of what the node becomes that a step went over.
+fn weight(x: Step, rule: Rule, hit: Size) -> Size
+    requires { ⌜ DimOver x ⌝ }
+    ensures { λ r. ⌜ r ≡ weightOver rule hit x ⌝ }
 {
-    let b = s[at];
-    if formula::is_literal(sort, b) {
-        let n = formula::dim_at(s, at + 1);
-        return literal_weight(rule, n, hit);
+    match x {
+        Step::Leaf(_) => plain_weight(rule, Kind::Nullary),
+        Step::Lit(_, n) => literal_weight(rule, n, hit),
+        Step::One(_) => plain_weight(rule, Kind::Unary),
+        Step::Two(_) => plain_weight(rule, Kind::Binary),
+        Step::Stuck => plain_weight(rule, Kind::Unknown),
     }
-    plain_weight(rule, formula::kind_of(sort, b))
 }
 
 // The size of what the formula becomes, a replaced literal becoming a formula of size `hit`.
@@ -137,16 +142,17 @@ pub fn weigh(sort: Sort, s: &[u8], rule: Rule, hit: Size) -> Size
     requires { ⌜ Whole sort (now s) × Small hit ⌝ }
     ensures { λ r. ⌜ r ≡ weighs (weightOf sort rule hit) (tokensOf sort (now (s .entry))) ⌝ }
 {
-    let mut at = 0;
+    let mut p = Place::start(0);
     let mut len = 0;
     let mut nodes = 0;
     let mut bound = 0;
-    while at < s.len() {
-        let z = weight(sort, s, at, rule, hit);
+    while 0 < p.pending {
+        let x = p.step(sort, s);
+        let z = weight(x, rule, hit);
         len += z.len;
         nodes += z.nodes;
         bound = formula::larger(bound, z.bound);
-        at = behind(sort, s, at);
+        p = place_by(x, p);
     }
     Size { len, nodes, bound }
 }

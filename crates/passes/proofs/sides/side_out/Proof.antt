@@ -2,63 +2,91 @@ use borrow.Author.Needs.{needs}
 use Rattle.passes.proofs.sides.side_out.Statement.{statement}
 use Rattle.passes.proofs.sides.side_out.Tie as tie
 use native.Mathlib.Omega.{arith}
-use mathlib.Core.Path.{sym, ap, _∙_}
-use lib.ListN.{length, getD}
-use Rattle.passes.specs.Passes.{literal, sideBytes, plainSide}
-use Rattle.formula.specs.declared.Sort.the-variants.{Intervals}
-use Rattle.formula.specs.declared.Kind.{Kind}
-use Rattle.passes.proofs.TokenLaws.{behind-pos, at-plain, at-literal, behind-literal}
-use Rattle.passes.proofs.PassLaws.{wrote-as}
+use mathlib.Core.Path.{refl, sym, ap, _∙_, subst}
+use mathlib.Core.List.{[], _∷_}
+use Prim.Native.Nat.{ℕ}
+use lib.ListN.{length}
+use Rattle.passes.specs.Stepping.{DimOver}
+use Rattle.passes.proofs.PassLaws.{wrote-as, wrote-none}
+use Rattle.passes.proofs.SideLaws.{side-plain, side-literal}
 
-shared-slice-read-b : tie.Need-shared-slice-read-b
-shared-slice-read-b c = let a = c .before .before .before .args in omega (arith, behind-pos Intervals (a .s .now) (a .at), c .before .before .before .pre .1 .inside)
+enum-told : tie.Need-enum-told
+enum-told c = search needs
 
-is-literal-requires : tie.Need-is-literal-requires
-is-literal-requires c κs = search needs
+leaf-side-requires : tie.Need-leaf-side-requires
+leaf-side-requires c κs = search needs
 
-add-dim-at : tie.Need-add-dim-at
-add-dim-at c = search needs
+byte-out-requires : tie.Need-byte-out-requires
+byte-out-requires c κs = let a = c .before .before .before .before .before .args in omega (arith, ap length (side-plain (a .e) (a .b) (c .before .before .enum-told .given .1) refl (c .before .before .before .before .before .pre .1)), c .before .before .before .before .before .pre .3)
 
-dim-at-requires : tie.Need-dim-at-requires
-dim-at-requires c κs = let a = c .before .before .before .before .before .args in omega (arith, behind-literal Intervals (a .s .now) (a .at) (sym (c .before .is-literal .ensures) ∙ c .if1 .taken), c .before .before .before .before .before .pre .1 .inside)
+enum-known-x : tie.Need-enum-known-x
+enum-known-x c = search needs
 
 add-bytes-out : tie.Need-add-bytes-out
 add-bytes-out c = search needs
 
 bytes-out-requires : tie.Need-bytes-out-requires
-bytes-out-requires c κs = let a = c .before .before .before .before .before .before .before .args in (c .before .dim-at .ensures .1, omega (arith, ap length (ap (sideBytes (a .e)) (at-literal Intervals (a .s .now) (a .at) (sym (c .before .before .before .is-literal .ensures) ∙ c .before .before .if1 .taken) ∙ ap (literal (getD (a .s .now) (a .at) 0)) (sym (c .before .dim-at .ensures .0)))), c .before .before .before .before .before .before .before .pre .1 .fits))
+bytes-out-requires c κs = let a = c .before .before .before .before .before .args in (subst DimOver (c .before .before .x .given .1) (c .before .before .before .before .before .pre .2), omega (arith, ap length (side-literal (a .e) (a .b) (c .before .before .x .given .1)), c .before .before .before .before .before .pre .3))
+
+enum-told-2 : tie.Need-enum-told-2
+enum-told-2 c = search needs
+
+enum-told-3 : tie.Need-enum-told-3
+enum-told-3 c = search needs
+
+pair-side-requires : tie.Need-pair-side-requires
+pair-side-requires c κs = search needs
+
+byte-out-requires-2 : tie.Need-byte-out-requires-2
+byte-out-requires-2 c κs = let a = c .before .before .before .before .before .args in omega (arith, ap length (side-plain (a .e) (a .b) (c .before .before .enum-told3 .given .1) refl (c .before .before .before .before .before .pre .1)), c .before .before .before .before .before .pre .3)
+
+enum-told-4 : tie.Need-enum-told-4
+enum-told-4 c = search needs
 
 same-length : tie.Need-same-length
 same-length c = search needs
 
 returns : tie.Need-returns
-returns c = let a = c .before .before .before .before .before .before .before .before .before .before .args in wrote-as (sym (ap (sideBytes (a .e)) (at-literal Intervals (a .s .now) (a .at) (sym (c .before .before .before .before .before .before .is-literal .ensures) ∙ c .before .before .before .before .before .if1 .taken) ∙ ap (literal (getD (a .s .now) (a .at) 0)) (sym (c .before .before .before .before .dim-at .ensures .0))))) (c .before .before .bytes-out .ensures)
-
-kind-of-requires : tie.Need-kind-of-requires
-kind-of-requires c κs = search needs
-
-plain-out-requires : tie.Need-plain-out-requires
-plain-out-requires c κs = let a = c .before .before .before .before .before .before .before .args in (c .before .before .before .before .before .before .before .pre .0, omega (arith, ap length (ap (sideBytes (a .e)) (at-plain Intervals (a .s .now) (a .at) (sym (c .before .before .before .is-literal .ensures) ∙ c .before .before .if1 .left)) ∙ ap (λ (k : Kind). plainSide (a .e) k (getD (a .s .now) (a .at) 0)) (sym (c .before .kind-of .ensures))), c .before .before .before .before .before .before .before .pre .1 .fits))
+returns c = let a = c .before .before .before .before .before .before .before .before .args in wrote-as (ap (λ (n : ℕ). n ∷ []) (c .before .before .before .before .leaf-side .ensures) ∙ sym (side-plain (a .e) (a .b) (c .before .before .before .before .before .enum-told .given .1) refl (c .before .before .before .before .before .before .before .before .pre .1))) (c .before .before .byte-out .ensures)
 
 same-length-2 : tie.Need-same-length-2
 same-length-2 c = search needs
 
 returns-2 : tie.Need-returns-2
-returns-2 c = let a = c .before .before .before .before .before .before .before .before .before .before .args in wrote-as (sym (ap (sideBytes (a .e)) (at-plain Intervals (a .s .now) (a .at) (sym (c .before .before .before .before .before .before .is-literal .ensures) ∙ c .before .before .before .before .before .if1 .left)) ∙ ap (λ (k : Kind). plainSide (a .e) k (getD (a .s .now) (a .at) 0)) (sym (c .before .before .before .before .kind-of .ensures)))) (c .before .before .plain-out .ensures)
+returns-2 c = let a = c .before .before .before .before .before .before .before .before .args in wrote-as (sym (side-literal (a .e) (a .b) (c .before .before .before .before .before .x .given .1))) (c .before .before .bytes-out .ensures)
+
+returns-3 : tie.Need-returns-3
+returns-3 c = let a = c .before .before .before .args in wrote-as (sym (side-plain (a .e) (a .b) (c .enum-told2 .given .1) refl (c .before .before .before .pre .1))) (wrote-none (a .out .now) (a .o))
+
+same-length-3 : tie.Need-same-length-3
+same-length-3 c = search needs
+
+returns-4 : tie.Need-returns-4
+returns-4 c = let a = c .before .before .before .before .before .before .before .before .args in wrote-as (ap (λ (n : ℕ). n ∷ []) (c .before .before .before .before .pair-side .ensures) ∙ sym (side-plain (a .e) (a .b) (c .before .before .before .before .before .enum-told3 .given .1) refl (c .before .before .before .before .before .before .before .before .pre .1))) (c .before .before .byte-out2 .ensures)
+
+returns-5 : tie.Need-returns-5
+returns-5 c = let a = c .before .before .before .args in wrote-as (sym (side-plain (a .e) (a .b) (c .enum-told4 .given .1) refl (c .before .before .before .pre .1))) (wrote-none (a .out .now) (a .o))
 
 pub side-out-spec : {M : Type 1} → statement M
 side-out-spec =
     tie.close
     (tie.spec
-    shared-slice-read-b
-    is-literal-requires
-    add-dim-at
-    dim-at-requires
+    enum-told
+    leaf-side-requires
+    byte-out-requires
+    enum-known-x
     add-bytes-out
     bytes-out-requires
+    enum-told-2
+    enum-told-3
+    pair-side-requires
+    byte-out-requires-2
+    enum-told-4
     same-length
     returns
-    kind-of-requires
-    plain-out-requires
     same-length-2
-    returns-2)
+    returns-2
+    returns-3
+    same-length-3
+    returns-4
+    returns-5)

@@ -1,53 +1,70 @@
 use borrow.Author.Needs.{needs}
 use Rattle.passes.proofs.weighing.weight.Statement.{statement}
 use Rattle.passes.proofs.weighing.weight.Tie as tie
-use Prim.Native.Nat.{ℕ}
-use native.Mathlib.Omega.{arith}
-use mathlib.Core.Path.{sym, ap, _∙_}
-use Rattle.passes.specs.Passes.{weightOf, movedTo, movedWeight, plainWeight}
-use Rattle.passes.proofs.TokenLaws.{behind-pos, at-plain, at-literal, behind-literal}
+use mathlib.Core.Path.{sym, ap, _∙_, subst}
+use Rattle.passes.specs.Stepping.{DimOver, weightOver}
 
-shared-slice-read-b : tie.Need-shared-slice-read-b
-shared-slice-read-b c = let a = c .before .before .args in omega (arith, behind-pos (a .sort) (a .s .now) (a .at))
-
-is-literal-requires : tie.Need-is-literal-requires
-is-literal-requires c κs = search needs
-
-add-dim-at : tie.Need-add-dim-at
-add-dim-at c = search needs
-
-dim-at-requires : tie.Need-dim-at-requires
-dim-at-requires c κs = let a = c .before .before .before .before .args in omega (arith, behind-literal (a .sort) (a .s .now) (a .at) (sym (c .before .is-literal .ensures) ∙ c .if1 .taken))
-
-literal-weight-requires : tie.Need-literal-weight-requires
-literal-weight-requires c κs = search needs
-
-returns : tie.Need-returns
-returns c = let a = c .before .before .before .before .before .before .args in
-    c .literal-weight .ensures ∙ ap (λ (n : ℕ). movedWeight (movedTo (a .rule) n) (a .hit)) (c .before .dim-at .ensures .0)
-    ∙ sym (ap (weightOf (a .sort) (a .rule) (a .hit)) (at-literal (a .sort) (a .s .now) (a .at) (sym (c .before .before .before .is-literal .ensures) ∙ c .before .before .if1 .taken)))
-
-kind-of-requires : tie.Need-kind-of-requires
-kind-of-requires c κs = search needs
+enum-told : tie.Need-enum-told
+enum-told c = search needs
 
 plain-weight-requires : tie.Need-plain-weight-requires
 plain-weight-requires c κs = search needs
 
+enum-known-x : tie.Need-enum-known-x
+enum-known-x c = search needs
+
+literal-weight-requires : tie.Need-literal-weight-requires
+literal-weight-requires c κs = subst DimOver (c .before .x .given .1) (c .before .before .before .pre)
+
+enum-told-2 : tie.Need-enum-told-2
+enum-told-2 c = search needs
+
+plain-weight-requires-2 : tie.Need-plain-weight-requires-2
+plain-weight-requires-2 c κs = search needs
+
+enum-told-3 : tie.Need-enum-told-3
+enum-told-3 c = search needs
+
+plain-weight-requires-3 : tie.Need-plain-weight-requires-3
+plain-weight-requires-3 c κs = search needs
+
+enum-told-4 : tie.Need-enum-told-4
+enum-told-4 c = search needs
+
+plain-weight-requires-4 : tie.Need-plain-weight-requires-4
+plain-weight-requires-4 c κs = search needs
+
+returns : tie.Need-returns
+returns c = let a = c .before .before .before .args in c .plain-weight .ensures ∙ sym (ap (weightOver (a .rule) (a .hit)) (c .before .enum-told .given .1))
+
 returns-2 : tie.Need-returns-2
-returns-2 c = let a = c .before .before .before .before .before .before .args in
-    c .plain-weight .ensures ∙ ap (plainWeight (a .rule)) (c .before .kind-of .ensures)
-    ∙ sym (ap (weightOf (a .sort) (a .rule) (a .hit)) (at-plain (a .sort) (a .s .now) (a .at) (sym (c .before .before .before .is-literal .ensures) ∙ c .before .before .if1 .left)))
+returns-2 c = let a = c .before .before .before .before .args in c .literal-weight .ensures ∙ sym (ap (weightOver (a .rule) (a .hit)) (c .before .before .x .given .1))
+
+returns-3 : tie.Need-returns-3
+returns-3 c = let a = c .before .before .before .args in c .plain-weight2 .ensures ∙ sym (ap (weightOver (a .rule) (a .hit)) (c .before .enum-told2 .given .1))
+
+returns-4 : tie.Need-returns-4
+returns-4 c = let a = c .before .before .before .args in c .plain-weight3 .ensures ∙ sym (ap (weightOver (a .rule) (a .hit)) (c .before .enum-told3 .given .1))
+
+returns-5 : tie.Need-returns-5
+returns-5 c = let a = c .before .before .before .args in c .plain-weight4 .ensures ∙ sym (ap (weightOver (a .rule) (a .hit)) (c .before .enum-told4 .given .1))
 
 pub weight-spec : {M : Type 1} → statement M
 weight-spec =
     tie.close
     (tie.spec
-    shared-slice-read-b
-    is-literal-requires
-    add-dim-at
-    dim-at-requires
-    literal-weight-requires
-    returns
-    kind-of-requires
+    enum-told
     plain-weight-requires
-    returns-2)
+    enum-known-x
+    literal-weight-requires
+    enum-told-2
+    plain-weight-requires-2
+    enum-told-3
+    plain-weight-requires-3
+    enum-told-4
+    plain-weight-requires-4
+    returns
+    returns-2
+    returns-3
+    returns-4
+    returns-5)
