@@ -156,7 +156,7 @@ module _ {s : Sort} {rule : Rule} {hit : Size} {l : List ℕ} {p : Place} {len n
       pub summed-small : Small z
       summed-small = subst Small (sym weight-here) (small-weight s rule hit small (tokenOver (getD l (p .at) 0) x))
 
-      pub summed-more : {q : Place} → q ≡ placeBy x p → {a b m : ℕ} → a ≡ len + z .len → b ≡ nodes + z .nodes → m ≡ max bound (z .bound) → Summed s rule hit l q a b m
+      pub summed-more : {q : Place} → q ≡ placeBy x → {a b m : ℕ} → a ≡ len + z .len → b ≡ nodes + z .nodes → m ≡ max bound (z .bound) → Summed s rule hit l q a b m
       unfolding weighs
       summed-more {q} j {a} {b} {m} ea eb em =
           let k = summed-small in
@@ -281,7 +281,7 @@ module _ {s : Sort} {rule : Rule} {u v l d₀ d : List ℕ} {p : Place} {o : ℕ
       writing-room (spell image (tokensOf s l)) d₀ d o (spell image (rowTokens s (w .row))) (w .writing) (image token) (spell image (rowTokens s (rewriting-turn .rest))) image-here g,
     )
 
-    pub rewriting-more : {q : Place} → q ≡ placeBy x p → {o′ : ℕ} {d′ : List ℕ} → Wrote d o (image token) o′ d′ → Rewriting s rule u v l d₀ d′ q o′
+    pub rewriting-more : {q : Place} → q ≡ placeBy x → {o′ : ℕ} {d′ : List ℕ} → Wrote d o (image token) o′ d′ → Rewriting s rule u v l d₀ d′ q o′
     rewriting-more i {o′} {d′} y =
         record {
           row = rewriting-turn .rest;

@@ -206,7 +206,7 @@ module _ {goal l d₀ d ends : List ℕ} {p : Place} {o : ℕ} (w : Siding goal 
     pub siding-room : ((i : ℕ) → getD l i 0 < dimSpace) → length goal ≤ length d₀ → (here ≤ 1) × (kindOf Intervals byte ≡ kindOver x) × DimOver x × (o + length bytes ≤ length d)
     siding-room i g = (w .bits top, siding-turn .kind, siding-turn .field i, writing-room goal d₀ d o left (w .writing) bytes later image g)
 
-    pub siding-more : {q : Place} → q ≡ placeBy x p → {o′ : ℕ} {d′ : List ℕ} → Wrote d o bytes o′ d′ → {ends′ : List ℕ} → Pushed (kindOver x) here ends top ends′ → Siding goal l d₀ d′ ends′ q o′
+    pub siding-more : {q : Place} → q ≡ placeBy x → {o′ : ℕ} {d′ : List ℕ} → Wrote d o bytes o′ d′ → {ends′ : List ℕ} → Pushed (kindOver x) here ends top ends′ → Siding goal l d₀ d′ ends′ q o′
     siding-more {q} i {o′} {d′} y {ends′} z =
         let height : q .pending ≡ pendingBy (kindOver x) (top + 1) = ap (λ (a : Place). a .pending) i ∙ siding-turn .pending ∙ ap (pendingBy (kindOver x)) (omega arith) in
         record {

@@ -114,12 +114,12 @@ pub record Stepped (s : Sort) (l : List ℕ) (p : Place) (row : List (Tree s)) (
   pub head : rowTokens s row ≡ tokenOver (getD l (p .at) 0) x ∷ rowTokens s rest
   pub kind : kindOf s (getD l (p .at) 0) ≡ kindOver x
   pub field : ((i : ℕ) → getD l i 0 < dimSpace) → DimOver x
-  pub after : Rest s l (placeBy x p) rest
-  pub forward : p .at < placeBy x p .at
-  pub inside : placeBy x p .at ≤ length l
-  pub pending : placeBy x p .pending ≡ pendingBy (kindOver x) (p .pending)
+  pub after : Rest s l (placeBy x) rest
+  pub forward : p .at < placeBy x .at
+  pub inside : placeBy x .at ≤ length l
+  pub pending : placeBy x .pending ≡ pendingBy (kindOver x) (p .pending)
 
-pub stepped-on : {s : Sort} {l : List ℕ} {p : Place} {row : List (Tree s)} {x : Step} → Stepped s l p row x → {q : Place} → q ≡ placeBy x p → (p .at < q .at) × (q .at ≤ length l)
+pub stepped-on : {s : Sort} {l : List ℕ} {p : Place} {row : List (Tree s)} {x : Step} → Stepped s l p row x → {q : Place} → q ≡ placeBy x → (p .at < q .at) × (q .at ≤ length l)
 stepped-on t i = let h = ap (λ (q : Place). q .at) i in (omega (arith, t .forward), omega (arith, t .inside))
 
 pub rest-start : (s : Sort) (l : List ℕ) → Whole s l → (p : Place) → p .at ≡ 0 → p .pending ≡ 1 → Rest s l p (treeOf s l ∷ [])
@@ -140,7 +140,7 @@ record Plain {A : Type 0} (l : List ℕ) (p : Place) (k : Node A) (x : Step) : T
   step : stepBy k l (p .at) (p .pending) ≡ x
   token : (b : ℕ) → tokenOver b x ≡ plain b
   field : DimOver x
-  place : placeBy x p ≡ record { at = p .at + 1; pending = pendingBy (kindOver x) (p .pending) }
+  place : placeBy x ≡ record { at = p .at + 1; pending = pendingBy (kindOver x) (p .pending) }
 
 module _ (s : Sort) (l : List ℕ) (p : Place) where
   -- each pending formula takes a byte or more

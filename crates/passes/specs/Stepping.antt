@@ -38,13 +38,13 @@ DimOver (One q) = Unit {0}
 DimOver (Two q) = Unit {0}
 DimOver Stuck = Unit {0}
 
--- the place that a step leads to; from where it leads nowhere, the same place
-abbrev pub placeBy : Step → Place → Place
-placeBy (Leaf q) p = q
-placeBy (Lit q n) p = q
-placeBy (One q) p = q
-placeBy (Two q) p = q
-placeBy Stuck p = p
+-- the place that a step leads to; behind a step that is stuck, nothing is pending
+abbrev pub placeBy : Step → Place
+placeBy (Leaf q) = q
+placeBy (Lit q n) = q
+placeBy (One q) = q
+placeBy (Two q) = q
+placeBy Stuck = record { at = 0; pending = 0 }
 
 -- the size of what a token becomes, by the step over it
 abbrev pub weightOver : Rule → Size → Step → Size

@@ -87,7 +87,7 @@ pub fn rewrite(sort: Sort, s: &[u8], rule: Rule, zero: &[u8], one: &[u8], out: &
         let at = p.at;
         let x = p.step(sort, s);
         o = node_out(s[at], x, rule, zero, one, out, o);
-        p = weighing::place_by(x, p);
+        p = weighing::place_by(x);
     }
     o
 }

@@ -81,7 +81,7 @@ pub fn side(s: &[u8], e: u8, out: &mut [u8]) -> usize
         let x = p.step(Sort::Intervals, s);
         o = side_out(s[at], x, here, out, o);
         push(x, here, &mut ends, top);
-        p = weighing::place_by(x, p);
+        p = weighing::place_by(x);
     }
     o
 }

@@ -46,16 +46,16 @@ fn lowered(k: usize, n: usize) -> Moved
     Moved::To(n - 1)
 }
 
-// The place that a step led to.
-pub(crate) fn place_by(x: Step, p: Place) -> Place
-    ensures { λ r. ⌜ r ≡ placeBy x p ⌝ }
+// The place that a step led to. A walk over a formula is never stuck; where it is, nothing is pending, which ends it.
+pub(crate) fn place_by(x: Step) -> Place
+    ensures { λ r. ⌜ r ≡ placeBy x ⌝ }
 {
     match x {
         Step::Leaf(q) => q,
         Step::Lit(q, _) => q,
         Step::One(q) => q,
         Step::Two(q) => q,
-        Step::Stuck => p,
+        Step::Stuck => Place { at: 0, pending: 0 },
     }
 }
 
@@ -152,7 +152,7 @@ pub fn weigh(sort: Sort, s: &[u8], rule: Rule, hit: Size) -> Size
         len += z.len;
         nodes += z.nodes;
         bound = formula::larger(bound, z.bound);
-        p = place_by(x, p);
+        p = place_by(x);
     }
     Size { len, nodes, bound }
 }
