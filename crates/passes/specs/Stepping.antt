@@ -15,7 +15,7 @@ use Rattle.formula.specs.declared.Step.the-variants.{Leaf, Lit, One, Two, Stuck
 use Rattle.passes.specs.Passes.{Token, plain, literal, movedTo, plainWeight, movedWeight, endOf, pushKind}
 use Rattle.passes.specs.declared.Rule.{Rule}
 
--- what a step goes over: its kind, and its token where b is its kind byte
+-- the kind of node that a step goes over
 abbrev pub kindOver : Step → Kind
 kindOver (Leaf q) = Nullary
 kindOver (Lit q n) = Literal
@@ -23,6 +23,7 @@ kindOver (One q) = Unary
 kindOver (Two q) = Binary
 kindOver Stuck = Unknown
 
+-- the token that a step goes over, where b is its kind byte
 abbrev pub tokenOver : ℕ → Step → Token
 tokenOver b (Leaf q) = plain b
 tokenOver b (Lit q n) = literal b n
@@ -59,6 +60,7 @@ unfoldable pub stackOf : List ℕ → ℕ → List End
 stackOf l zero = []
 stackOf l (suc n) = endOf (getD l n 0) ∷ stackOf l n
 
+-- every byte is an end's
 abbrev pub Bits : List ℕ → Type 0
 Bits l = (i : ℕ) → getD l i 0 ≤ 1
 
@@ -70,7 +72,7 @@ pendingBy Unary p = p
 pendingBy Binary p = p + 1
 pendingBy Unknown p = p - 1
 
--- the stack after a node of this kind, at whose top e stood at place top
+-- the stack in l′ behind a node of this kind, where in l the end e stood on top, at place top
 pub record Pushed (k : Kind) (e : ℕ) (l : List ℕ) (top : ℕ) (l′ : List ℕ) : Type 0 where
   pub stack : stackOf l′ (pendingBy k (top + 1)) ≡ pushKind k (endOf e) (stackOf l top)
   pub bits : Bits l → Bits l′

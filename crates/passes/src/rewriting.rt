@@ -65,7 +65,7 @@ fn literal_out(
     }
 }
 
-// What the node of kind byte b becomes that a step went over, written at `o`; answers the place after it.
+// What a node of kind byte b becomes, by the step over it, written at `o`; answers the place after it.
 fn node_out(b: u8, x: Step, rule: Rule, zero: &[u8], one: &[u8], out: &mut [u8], o: usize) -> usize
     requires { ⌜ DimOver x × FieldedAt rule (tokenOver b x) × (o + length (imageOf rule (now zero) (now one) (tokenOver b x)) ≤ length (now out)) ⌝ }
     ensures { λ r. ⌜ Wrote (now (out .entry)) o (imageOf rule (now (zero .entry)) (now (one .entry)) (tokenOver b x)) r (now (out .exit)) ⌝ }

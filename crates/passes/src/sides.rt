@@ -36,7 +36,7 @@ fn pair_side(b: u8, e: u8) -> u8
     4 + e
 }
 
-// What the node of kind byte b becomes at the side e that a step went over, written at `o`; a negation becomes nothing.
+// What a node of kind byte b becomes at the side e, by the step over it, written at `o`; a negation becomes nothing.
 // Answers the place after it.
 fn side_out(b: u8, x: Step, e: u8, out: &mut [u8], o: usize) -> usize
     requires { ⌜ (e ≤ 1) × (kindOf Sort.Intervals b ≡ kindOver x) × DimOver x × (o + length (sideBytes e (tokenOver b x)) ≤ length (now out)) ⌝ }
@@ -51,7 +51,7 @@ fn side_out(b: u8, x: Step, e: u8, out: &mut [u8], o: usize) -> usize
     }
 }
 
-// The stack behind the node that a step went over, at whose top e stands at place `top`.
+// The stack behind a node, by the step over it; e stood on top, at place `top`.
 fn push(x: Step, e: u8, ends: &mut [u8; 1024], top: usize)
     requires { ⌜ (e ≤ 1) × (top + 1 < 1024) × (length (now ends) ≡ 1024) × (getD (now ends) top 0 ≡ e) ⌝ }
     ensures { λ _. ⌜ Pushed (kindOver x) e (now (ends .entry)) top (now (ends .exit)) ⌝ }

@@ -46,7 +46,8 @@ fn lowered(k: usize, n: usize) -> Moved
     Moved::To(n - 1)
 }
 
-// The place that a step led to. A walk over a formula is never stuck; where it is, nothing is pending, which ends it.
+// The place that a step led to. In a formula no step is stuck; its answer is no place that the caller holds, since to
+// choose between two of those keeps both in memory.
 pub(crate) fn place_by(x: Step) -> Place
     ensures { λ r. ⌜ r ≡ placeBy x ⌝ }
 {
@@ -123,7 +124,7 @@ fn literal_weight(rule: Rule, n: usize, hit: Size) -> Size
     }
 }
 
-// The size of what the node becomes that a step went over.
+// The size of what a node becomes, by the step over it.
 fn weight(x: Step, rule: Rule, hit: Size) -> Size
     requires { ⌜ DimOver x ⌝ }
     ensures { λ r. ⌜ r ≡ weightOver rule hit x ⌝ }
