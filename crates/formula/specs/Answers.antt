@@ -36,14 +36,6 @@ kindBy bad = Unknown
 unfoldable pub kindOf : Sort → ℕ → Kind
 kindOf s b = kindBy (nodeOf s b)
 
--- Is it a literal?
-abbrev pub literalKind : Kind → Bool
-literalKind Nullary = false
-literalKind Literal = true
-literalKind Unary = false
-literalKind Binary = false
-literalKind Unknown = false
-
 -- How many dimensions a field can tell apart.
 abbrev pub dimSpace : ℕ
 dimSpace = 256

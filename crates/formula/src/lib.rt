@@ -8,7 +8,6 @@ pub use bytes::put;
 pub use bytes::same;
 pub use node::DIM;
 pub use node::dim_at;
-pub use node::is_literal;
 pub use node::kind_of;
 pub use node::put_dim;
 pub use walk::formula_at;

@@ -8,7 +8,7 @@ ghost use Prim.Native.Nat.{_+_, _≤_, _<_};
 ghost use lib.ListN.{length};
 ghost use lib.Seq.{sets};
 ghost use Rattle.formula.specs.Bytes.{dimWidth, dimAt, dimBytes};
-ghost use Rattle.formula.specs.Answers.{dimSpace, literalStep, kindOf, literalKind};
+ghost use Rattle.formula.specs.Answers.{dimSpace, literalStep, kindOf};
 
 // The width of a dimension's field in bytes.
 pub const DIM: usize = 1;
@@ -57,19 +57,6 @@ fn interval_kind(b: u8) -> Kind
         return Kind::Binary;
     }
     Kind::Unknown
-}
-
-// Whether the kind byte begins a literal.
-pub fn is_literal(sort: Sort, b: u8) -> bool
-    ensures { λ r. ⌜ r ≡ literalKind (kindOf sort b) ⌝ }
-{
-    match kind_of(sort, b) {
-        Kind::Literal => true,
-        Kind::Nullary => false,
-        Kind::Unary => false,
-        Kind::Binary => false,
-        Kind::Unknown => false,
-    }
 }
 
 // The dimension whose field stands at `at`.
