@@ -210,7 +210,7 @@ remove-insert k v σ = fun-ext λ n. go n (compare n k) (stands n k)
     go n Ordering·gt h = rw (compare-gt (suc n) k (omega arith))
 
 -- A place above k that is lowered and raised is where it was.
-raised-pred : (k n : ℕ) → k < n → raised k (pred n) ≡ n
+pub raised-pred : (k n : ℕ) → k < n → raised k (pred n) ≡ n
 raised-pred k n l = go (compare (pred n) k) (stands (pred n) k)
   where
     go : (o : Ordering) → Stands o (pred n) k → beside o (pred n) (suc (pred n)) (suc (pred n)) ≡ n

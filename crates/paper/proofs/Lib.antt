@@ -1,0 +1,4 @@
+pub mod Equality
+pub mod Boundaries
+pub mod Foralls
+pub mod Contexts

@@ -1,0 +1,2 @@
+pub mod DeMorgan
+pub mod Maps
