@@ -8,6 +8,7 @@ use Rattle.formula.proofs.Compare.{Stands, stands}
 use Rattle.calculus.proofs.Calling.{boundary-size}
 use Rattle.paper.specs.Maps.{weaken}
 
+-- Weakening adds a name at most.
 weaken-context : (d k : ℕ) (ψ : Face) → boundFace ψ ≤ d → boundFace (weaken k ψ) ≤ suc d
 unfolding boundFace weaken
 weaken-context d k ff h = omega arith
@@ -21,6 +22,7 @@ weaken-context d k (at e n) h = go (compare n k)
 weaken-context d k (fand a b) h = omega (arith, weaken-context d k a (omega arith), weaken-context d k b (omega arith))
 weaken-context d k (for a b) h = omega (arith, weaken-context d k a (omega arith), weaken-context d k b (omega arith))
 
+-- ∀ of a name that is there leaves one less.
 forall-context : (d k : ℕ) (φ : Face) → k ≤ d → boundFace φ ≤ suc d → boundFace (forall k φ) ≤ d
 unfolding boundFace forall
 forall-context d k ff l h = omega arith

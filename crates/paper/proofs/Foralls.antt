@@ -44,6 +44,7 @@ forall-raised k e n = go (compare n k) (stands n k)
     go Ordering·eq h = forall-above e (suc n) k (omega arith)
     go Ordering·gt h = forall-above e (suc n) k (omega arith)
 
+-- `forall` is a lattice map with the values of ∀i on generators.
 forall-map : (k : ℕ) → Forall k (forall k)
 unfolding forall
 forall-map k = record {
@@ -72,7 +73,8 @@ forall-only k g c (at e n) = go (compare n k) (stands n k)
 forall-only k g c (fand a b) = chained (c .map .keeps-inf a b) (both-equal (forall-only k g c a) (forall-only k g c b))
 forall-only k g c (for a b) = chained (c .map .keeps-sup a b) (either-equal (forall-only k g c a) (forall-only k g c b))
 
--- `forall` is the paper's: it is ∀i, the only such map up to equality of faces, and ψ ≤ ∀i.φ exactly where ψ, weakened by i, is below φ.
+-- `forall` is the paper's: it is ∀i, the only such map up to equality of faces, and ψ ≤ ∀i.φ exactly where ψ, weakened by i, is below φ;
+-- so it is the largest face over Γ that is below φ once it is weakened.
 pub forall-paper : (k : ℕ) → Forall k (forall k)
     × ((g : Face → Face) → Forall k g → (f : Face) → g f ⊑⊒ forall k f)
     × ((ψ φ : Face) → (ψ ⊑ forall k φ) ↔ (weaken k ψ ⊑ φ))

@@ -1,4 +1,4 @@
--- The maps into the face lattice that Cohen, Coquand, Huber and Mörtberg have (section 4): (r=1) and (r=0), and ∀i.
+-- The maps into the face lattice of Cohen, Coquand, Huber and Mörtberg: (r=1) and (r=0) (section 4.1), and ∀i.
 -- The lattice itself is `Lattice` of the calculus: its order is `_⊑_`, and the paper's 0, 1, (i=0), (i=1), ∧, ∨ are ff, ft, at lo n, at hi n, fand, for.
 use Prim.Native.Nat.{ℕ}
 use Rattle.formula.specs.Formula.{End, lo, hi, Face, ff, ft, at, fand, for, Interval, i0, i1, dim, neg, meet, join, raised}
@@ -30,8 +30,8 @@ abbrev pub whereEnd : (Interval → Face) → End → Interval → Face
 whereEnd f hi r = f r
 whereEnd f lo r = f (neg r)
 
--- Names and numbers: the paper's Γ, i has here i at some place k, so name n of Γ is number `raised k n` in Γ, i (n below k, n + 1 from k on).
--- Every number but k is the place of exactly one name of Γ, and no bound on Γ is needed.
+-- Names and numbers: in the paper's Γ, i the name i is here the number k, and name n of Γ is the number `raised k n` (n below k, else n + 1).
+-- Every number but k is the place of exactly one name of Γ. That Γ has d names says only that its numbers are below d (`contexts-paper`).
 
 -- A face over Γ, read over Γ, i: each generator stays on its name.
 unfoldable pub weaken : ℕ → Face → Face
