@@ -1,6 +1,6 @@
 -- The boundary of an interval expression is the paper's (r=0) and (r=1).
 use mathlib.Core.Path.{_≡_, refl, sym, _∙_, ap₂}
-use mathlib.Core.Bool.{Bool, true, false, _&&_, _||_, and-comm, or-comm, and-assoc, or-assoc, and-true, or-true, and-false, or-false, and-or-distrib-left, or-and-distrib-left, and-eq-true-iff}
+use mathlib.Core.Bool.{Bool, true, false, _&&_, _||_, and-comm, or-comm, and-assoc, or-assoc, and-true, or-false, and-or-distrib-left, or-and-distrib-left, and-eq-true-iff}
 use Rattle.formula.specs.Formula.{End, lo, hi, other, Face, ff, fand, Interval, i0, i1, dim, neg, meet, join, Assignment, value, holds}
 use Rattle.formula.specs.Operations.{boundary}
 use Rattle.formula.proofs.Meaning.{boundary-holds, boundary-neg}
