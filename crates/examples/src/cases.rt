@@ -87,10 +87,10 @@ fn steps(sort: Sort, s: &[u8], at: usize, times: usize) {
 // The steps that a ledger has, and the operands of steps 0, 1, 2 and of the largest number.
 fn ledger(l: &[u8]) {
     show::checked(ledger::well_formed(l));
-    show::part(ledger::operands(l, 0));
-    show::part(ledger::operands(l, 1));
-    show::part(ledger::operands(l, 2));
-    show::part(ledger::operands(l, 18446744073709551615));
+    show::part(lookup::operands(l, 0));
+    show::part(lookup::operands(l, 1));
+    show::part(lookup::operands(l, 2));
+    show::part(lookup::operands(l, 18446744073709551615));
     stdio::text(b"\n");
 }
 

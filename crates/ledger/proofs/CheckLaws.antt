@@ -12,10 +12,10 @@ use lib.Seq.{drop-drop}
 use Rattle.formula.specs.Bytes.{Got, nothing, got, then, wholly}
 use Rattle.formula.specs.Answers.{pick}
 use Rattle.calculus.specs.Judgement.{Step}
-use Rattle.calculus.specs.Rules.{judgementAt, AllBelow}
-use Rattle.calculus.specs.Record.{operandBytes, maxLedger}
-use Rattle.calculus.specs.Parse.{only, takePart, readBody, used, readRecord, readSteps, allZero, readLedger, operandsOf, operandsAt}
-use Rattle.calculus.proofs.Records.{steps-turn, read-ledger, ledger-read, operands-past, operands-ill-formed}
+use Rattle.calculus.specs.Rules.{AllBelow}
+use Rattle.calculus.specs.Record.{maxLedger}
+use Rattle.calculus.specs.Parse.{only, takePart, readBody, used, readRecord, readSteps, allZero, readLedger}
+use Rattle.calculus.proofs.Records.{steps-turn, ledger-read}
 use Rattle.records.specs.Places.{littleAt}
 use Rattle.records.specs.Bodies.{isSome, readable}
 use Rattle.records.proofs.PlaceLaws.{little-at, little-short}
@@ -148,30 +148,14 @@ module _ (l : List ℕ) (h : 4 ≤ length l) (b : length l ≤ maxLedger) {n : �
       on true g = refl
       on false g = refl
 
--- The part of a step -----------------------------------------------------------------------------
+-- A step to seek ------------------------------------------------------------------------------
 
 -- What was read, by the answer of the check.
-ill-read : (o : Option (List Step)) → counted o ≡ Ill → o ≡ none
-ill-read none h = refl
-ill-read (some L) h = absurd (let z : _≡_ {A = ℕ} 0 1 = cc in omega arith)
-
 steps-read : (o : Option (List Step)) {n : ℕ} → counted o ≡ Steps n → (L : List Step) × (o ≡ some L) × (length L ≡ n)
 steps-read none h = absurd (let z : _≡_ {A = ℕ} 0 1 = cc in omega arith)
 steps-read (some L) h = (L, refl, cc)
 
--- The operands of step i.
-among : (L : List Step) (i : ℕ) → i < length L → operandBytes (judgementAt L i) ≡ operandsOf (some L) i
-among [] i b = absurd (omega arith)
-among (s ∷ L) zero b = refl
-among (s ∷ L) (suc i) b = among L i (omega arith)
-
 module _ (l : List ℕ) (i : ℕ) where
-  pub ill-operands : counted (readLedger l) ≡ Ill → operandsAt l i ≡ []
-  ill-operands h = operands-ill-formed l i (ill-read (readLedger l) h)
-
-  pub past-operands : {n : ℕ} → counted (readLedger l) ≡ Steps n → n ≤ i → operandsAt l i ≡ []
-  past-operands h b = let r = steps-read (readLedger l) h in operands-past l (r .0) (r .1) i (omega (arith, r .2))
-
   -- Below the number that the check answers there is a step to seek.
   pub sought : AllBelow 256 l → {n : ℕ} → counted (readLedger l) ≡ Steps n → i < n → Led l × (i < length (stepsOf l))
   sought a h b =
@@ -182,10 +166,3 @@ module _ (l : List ℕ) (i : ℕ) where
   module _ (p : Led l × (i < length (stepsOf l))) where
     pub sought-points : {step at : ℕ} → (step ≡ i) × (at ≡ placeOf (stepsOf l) i) → Points l step at
     sought-points e = record { led = p .0; inside = omega (arith, e .0, p .1); place = e .1 ∙ ap (placeOf (stepsOf l)) (sym (e .0)) }
-
-    pub sought-operands : {step : ℕ} → step ≡ i → operandBytes (judgementAt (stepsOf l) step) ≡ operandsAt l i
-    unfolding operandsAt
-    sought-operands e =
-        ap (λ (k : ℕ). operandBytes (judgementAt (stepsOf l) k)) e
-        ∙ among (stepsOf l) i (p .1)
-        ∙ ap (λ (o : Option (List Step)). operandsOf o i) (sym (read-ledger (p .0)))

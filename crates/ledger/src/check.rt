@@ -1,8 +1,7 @@
-// Question 1: whether bytes are a well-formed ledger, in one pass; and the part of them that is a judgement.
+// Question 1: whether bytes are a well-formed ledger, in one pass.
 use crate::Checked;
-use crate::steps;
 ghost use mathlib.Core.Path.{_≡_};
-ghost use Rattle.calculus.specs.Parse.{readLedger, operandsAt};
+ghost use Rattle.calculus.specs.Parse.{readLedger};
 ghost use Rattle.ledger.specs.Checks.{counted, recordsIn};
 
 // The number of the steps whose records fill the bytes.
@@ -49,20 +48,4 @@ pub fn well_formed(l: &[u8]) -> Checked
         return Checked::Ill;
     }
     count_records(&l[4..end])
-}
-
-// The bytes of the judgement of step i, a part of the caller's own slice; the empty part past the end, or where the
-// bytes are no ledger.
-pub fn operands(l: &[u8], i: usize) -> &[u8]
-    ensures { λ r. ⌜ now r ≡ operandsAt (now (l .entry)) i ⌝ }
-{
-    match well_formed(l) {
-        Checked::Steps(n) => {
-            if i < n {
-                return steps::seek(l, i).operands(l);
-            }
-            &l[..0]
-        }
-        Checked::Ill => &l[..0],
-    }
 }

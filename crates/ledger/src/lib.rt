@@ -3,7 +3,6 @@ mod check;
 pub mod places;
 mod steps;
 
-pub use check::operands;
 pub use check::well_formed;
 pub use steps::seek;
 pub use steps::used;
