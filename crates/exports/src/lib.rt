@@ -6,7 +6,10 @@ ghost use Rattle.calculus.specs.Parse.{readLedger};
 ghost use Rattle.calculus.specs.Door.{reply, face as faceCall, interval as intervalCall, boundary as boundaryCall, endpoint as endpointCall, forall as forallCall, shift as shiftCall, substitute as substituteCall, entails as entailsCall};
 ghost use Rattle.calculus.specs.Desk.{deskAnswer};
 ghost use Rattle.calculus.proofs.Desk.{judge};
+ghost use Rattle.kinds.specs.Kinds.{nameBytes};
 ghost use Rattle.ledger.specs.Checks.{counted};
+ghost use Rattle.ledger.specs.Ledger.{stepsOf};
+ghost use Rattle.lookup.specs.Lookup.{operandsStart, operandsLength, kindOf, referenceOf};
 ghost use Rattle.formula.specs.Bytes.{encode, readAll};
 ghost use Rattle.text.specs.Reading.{done, map, readFormula, readClaim};
 ghost use Rattle.text.specs.Answers.{delivered, bothDelivered};
@@ -15,7 +18,7 @@ ghost use Rattle.listing.specs.Answers.{lineOf};
 ghost use Rattle.normal.specs.Answers.{normalOf};
 ghost use Rattle.claims.specs.Facesteps.{facesteps};
 ghost use Rattle.repeat_test.specs.Repeats.{repeatTest};
-ghost use Rattle.numbers.specs.Answers.{stepsNumber, deskNumber, repeatNumber, Numbers, Reads, ReadsBoth, isOne};
+ghost use Rattle.numbers.specs.Answers.{stepsNumber, deskNumber, repeatNumber, partNumber, Numbers, Reads, ReadsBoth, isOne};
 
 // How many steps the ledger has, or refusal 1.
 #[no_mangle]
@@ -188,6 +191,38 @@ pub extern "C" fn lf_write_step(ledger: &[u8], step: u64, out: &mut [u8]) -> u64
     ensures { λ r. ⌜ Reads (delivered (lineOf (readLedger (now (ledger .entry))) step) (now (out .entry))) r (now (out .exit)) ⌝ }
 {
     numbers::length(listing::write_step(ledger, step as usize, out))
+}
+
+// Where the operands of a step begin in the ledger, and 2^32 times their length; 0 where there is no such step.
+#[no_mangle]
+pub extern "C" fn lf_operands(ledger: &[u8], step: u64) -> u64
+    ensures { λ r. ⌜ r ≡ partNumber (operandsStart (stepsOf (now (ledger .entry))) step) (operandsLength (stepsOf (now (ledger .entry))) step) ⌝ }
+{
+    numbers::part(lookup::locate(ledger, step as usize))
+}
+
+// The kind of a step, from 1 to 75; 0 where there is no such step.
+#[no_mangle]
+pub extern "C" fn lf_kind(ledger: &[u8], step: u64) -> u64
+    ensures { λ r. ⌜ r ≡ kindOf (stepsOf (now (ledger .entry))) step ⌝ }
+{
+    lookup::kind(ledger, step as usize) as u64
+}
+
+// One more than the step that reference i of a step names; 0 where there is none.
+#[no_mangle]
+pub extern "C" fn lf_reference(ledger: &[u8], step: u64, i: u64) -> u64
+    ensures { λ r. ⌜ r ≡ referenceOf (stepsOf (now (ledger .entry))) step i ⌝ }
+{
+    lookup::reference(ledger, step as usize, i as usize) as u64
+}
+
+// The name of the rule of a kind, in front of the output; nothing for a number that is no kind.
+#[no_mangle]
+pub extern "C" fn lf_rule_name(kind: u64, out: &mut [u8]) -> u64
+    ensures { λ r. ⌜ Reads (delivered (done (nameBytes kind)) (now (out .entry))) r (now (out .exit)) ⌝ }
+{
+    numbers::length(lookup::rule_name(kind as usize, out))
 }
 
 // All that the program facesteps prints for an input, in front of the output.

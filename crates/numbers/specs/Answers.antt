@@ -53,6 +53,10 @@ repeatNumber (Repeats.answered true) = 1
 repeatNumber (Repeats.answered false) = 0
 repeatNumber (Repeats.refused n) = refused n
 
+-- Where a part of a ledger begins, and 2^32 times how many bytes it has.
+abbrev pub partNumber : ℕ → ℕ → ℕ
+partNumber start len = start + 4294967296 * len
+
 -- The number of a reader, and every byte of its outputs, are those of what it delivers.
 pub record Reads (x : Delivered) (r : ℕ) (out′ : List ℕ) : Type 0 where
   pub numbered : r ≡ lengthNumber (x .answer)

@@ -1,6 +1,7 @@
 // Answers as one number (specs/Answers): a refusal is negative.
 use desk::Verdict;
 use ledger::Checked;
+use lookup::Part;
 use refusals::Refusal;
 use repeat_test::Compared;
 use replies::Answer;
@@ -8,12 +9,13 @@ use replies::Made;
 use text::Claim;
 use text::Length;
 ghost use mathlib.Core.Path.{_≡_};
+ghost use Prim.Native.Nat.{_<_};
 ghost use Rattle.calculus.specs.Door.{refused as refusedBy};
 ghost use Rattle.refusals.specs.Refusals.{refusalOf};
 ghost use Rattle.replies.specs.Replying.{said, saidOne, saidBoth};
 ghost use Rattle.text.specs.Answers.{saidLength, saidClaim};
 ghost use Rattle.repeat_test.specs.Repeats.{inDocument};
-ghost use Rattle.numbers.specs.Answers.{stepsNumber, replyNumber, lengthNumber, claimNumber, repeatNumber, isOne};
+ghost use Rattle.numbers.specs.Answers.{stepsNumber, replyNumber, lengthNumber, claimNumber, repeatNumber, partNumber, isOne};
 ghost use Rattle.numbers.specs.Packing.{Packs, ClaimFits, Low, verdictNumber};
 
 // Refusal q as -q.
@@ -97,6 +99,14 @@ pub fn compared(a: Compared) -> u64
         Compared::Fresh => 0,
         Compared::Refused(e) => refused(e),
     }
+}
+
+// Where a part of a ledger stands: its start and its length.
+pub fn part(p: Part) -> u64
+    requires { ⌜ (p .start < 4294967296) × (p .len < 2147483648) ⌝ }
+    ensures { λ r. ⌜ r ≡ partNumber (p .start) (p .len) ⌝ }
+{
+    p.start as u64 + 4294967296 * (p.len as u64)
 }
 
 // The end that a number names: 0 is i0, any other i1.
