@@ -5,6 +5,7 @@ pub mod lent;
 pub mod library;
 pub mod listings;
 pub mod lists;
+pub mod lookups;
 pub mod normal;
 pub mod outputs;
 pub mod plain;

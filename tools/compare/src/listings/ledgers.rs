@@ -71,7 +71,7 @@ fn asked(steps: Option<&[Step]>, step: u64) -> Asked {
 }
 
 /// The steps of a ledger that are asked for: all or some, and numbers past the end.
-fn some_steps(random: &mut Random, count: usize) -> BTreeSet<u64> {
+pub fn some_steps(random: &mut Random, count: usize) -> BTreeSet<u64> {
     let mut steps: BTreeSet<_> = [count, count + 1, count + random.below(1000)].map(|n| n as u64).into();
     steps.extend([(1 << 32) + random.below(count + 1) as u64, u64::MAX, u64::MAX - random.below(9) as u64]);
     if count <= MOST_STEPS {
