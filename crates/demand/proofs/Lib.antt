@@ -1,0 +1,4 @@
+pub mod Traces
+pub mod Deciding
+pub mod Telling
+pub mod Demand
