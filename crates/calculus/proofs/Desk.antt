@@ -1,5 +1,5 @@
 -- The desk's verdict is a function of the steps: whether a step follows is decided, and there is exactly one verdict.
-use mathlib.Core.Path.{_≡_, refl, sym, ap}
+use mathlib.Core.Path.{_≡_, refl, sym, ap, subst}
 use mathlib.Core.Option.{Option, none, some}
 use mathlib.Core.List.{List, [], _∷_, map}
 use Prim.Native.Nat.{ℕ, zero, suc, _+_, _<_, compare, Ordering, Ordering·lt, Ordering·eq, Ordering·gt}
@@ -11,7 +11,7 @@ use Rattle.calculus.specs.Judgement.{Step}
 use Rattle.calculus.specs.Rules.{Rule, stepAt, judgementAt, AllBelow, Follows, Valid, Verdict, pass, fail, Judges, passes, fails}
 use Rattle.calculus.specs.Truth.{True}
 use Rattle.calculus.specs.Parse.{readLedger}
-use Rattle.calculus.specs.Desk.{Judged, judged, onSteps, deskAnswer, Passes}
+use Rattle.calculus.specs.Desk.{DeskAnswer, unreadable, judged, DeskSays, no-ledger, on-steps}
 use Rattle.calculus.proofs.Sound.{valid-true}
 use Rattle.calculus.proofs.Rows.{rule?}
 
@@ -44,6 +44,11 @@ one-more {L} n h f j b = go (compare j n) (stands j n)
     go Ordering·lt l = h j l
     go Ordering·eq l = rw l f
     go Ordering·gt l = absurd (omega arith)
+
+-- A verdict that is right for the steps.
+pub record Judged (L : List Step) : Type 0 where
+  pub verdict : Verdict
+  pub judges : Judges L verdict
 
 unfoldable pub judgeFrom : (L : List Step) (n k : ℕ) → n + k ≡ length L → Up L n → Judged L
 judgeFrom L n zero e h = record { verdict = pass (length L); judges = passes (λ i b. h i (omega arith)) }
@@ -90,35 +95,24 @@ valid-passes v = sym (judges-desk (passes v))
 pub passes-valid : (L : List Step) (n : ℕ) → desk L ≡ pass n → Valid L
 passes-valid L n e = judges-valid (rw e at (desk-judges L))
 
-judged-as : {v w : Verdict} → judged v ≡ judged w → v ≡ w
-judged-as e = cc
-
 -- So each judgement of a ledger that it passes is true, whoever wrote it.
 pub passed-true : (L : List Step) (n : ℕ) → desk L ≡ pass n → (i : ℕ) → i < length L → True (judgementAt L i)
 passed-true L n e = valid-true (passes-valid L n e)
 
 -- On bytes ------------------------------------------------------------------------------------
 
--- Every function that judges gives the same answer.
-pub any-judge : (f g : (L : List Step) → Judged L) (l : List ℕ) → deskAnswer f l ≡ deskAnswer g l
-unfolding deskAnswer
-any-judge f g l = go (readLedger l)
+-- The desk has an answer to all bytes, and no other.
+pub desk-exists : (l : List ℕ) → (a : DeskAnswer) × DeskSays l a
+desk-exists l = go (readLedger l) refl
   where
-    go : (o : Option (List Step)) → onSteps f o ≡ onSteps g o
-    go none = refl
-    go (some L) = ap judged (one-verdict ((f L) .judges) ((g L) .judges))
+    go : (o : Option (List Step)) → readLedger l ≡ o → (a : DeskAnswer) × DeskSays l a
+    go none e = (unreadable, no-ledger e)
+    go (some L) e = (judged (desk L), on-steps L e (desk-judges L))
 
--- A ledger that passes is answered the number of its steps, and only such a ledger is answered a number.
-pub passes-answer : (f : (L : List Step) → Judged L) (l : List ℕ) (p : Passes l) → deskAnswer f l ≡ judged (pass (length (p .steps)))
-unfolding deskAnswer
-passes-answer f l p = rw (p .reads) (ap judged (one-verdict ((f (p .steps)) .judges) (p .verdict)))
-
-pub answer-passes : (f : (L : List Step) → Judged L) (l : List ℕ) (n : ℕ) → deskAnswer f l ≡ judged (pass n) → Passes l
-unfolding deskAnswer
-answer-passes f l n e = go (readLedger l) refl e
-  where
-    go : (o : Option (List Step)) → readLedger l ≡ o → onSteps f o ≡ judged (pass n) → Passes l
-    go none r e = absurd (let z : _≡_ {A = ℕ} 0 1 = cc in omega arith)
-    go (some L) r e =
-        let v : (f L) .verdict ≡ pass n = judged-as e in
-        record { steps = L; reads = r; verdict = passes (judges-valid (rw v at ((f L) .judges))) }
+pub desk-unique : {l : List ℕ} {a b : DeskAnswer} → DeskSays l a → DeskSays l b → a ≡ b
+desk-unique (no-ledger e) (no-ledger i) = refl
+desk-unique (no-ledger e) (on-steps M i k) = absurd (let z : _≡_ {A = ℕ} 0 1 = cc in omega arith)
+desk-unique (on-steps L e j) (no-ledger i) = absurd (let z : _≡_ {A = ℕ} 0 1 = cc in omega arith)
+desk-unique (on-steps L {v = v} e j) (on-steps M i k) =
+    let m : L ≡ M = cc in
+    ap judged (one-verdict (subst (λ (K : List Step). Judges K v) m j) k)

@@ -17,8 +17,8 @@ use Rattle.calculus.specs.Parse.{readLedger}
 use Rattle.calculus.specs.Emit.{Failure, not-below, not-implied, Outcome, within, run}
 use Rattle.calculus.specs.Refusal.{Refusal, number, ill-formed-ledger, not-a-formula, full-ledger, failing}
 use Rattle.calculus.specs.Door
-use Rattle.calculus.specs.Door.{Call, Item, item, Task, _>>=_, endOf, taskOf, outputsOf, Measure, measure, answered, refused, Reply, refuse, every, written, Question, ask, firstNo, questions, concluded, admitted, understood, reply}
-use Rattle.calculus.specs.Demand.{Lowest, NotRefusedTo7}
+use Rattle.calculus.specs.Door.{Answer, Call, Item, item, Task, _>>=_, endOf, taskOf, outputsOf, Measure, measure, answered, refused, Reply, refuse, every, written, Question, ask, firstNo, questions, concluded, admitted, understood, reply}
+use Rattle.calculus.specs.Demand.{Lowest}
 use Rattle.calculus.proofs.Finding.{find-lowest}
 use Rattle.calculus.proofs.Growing.{Extends, extends-refl, Grown, grown-extends, grown-valid, grown-formed, Good, claims, leaves, no-room}
 use Rattle.calculus.proofs.Emitting.{interval-good, face-good, entails-good}
@@ -216,6 +216,10 @@ pub call-keeps : (c : Call) (l : List ℕ) (L : List Step) → Holds l L → Kee
 call-keeps c l L h = passage-keeping c h (passage c l L (read-ledger h))
 
 -- Theorem 6 -------------------------------------------------------------------------------------------
+
+-- The answer is none of the refusals 1 to 7.
+abbrev pub NotRefusedTo7 : Answer → Type 0
+NotRefusedTo7 x = (r : Refusal) → x ≡ refused r → 7 < number r
 
 -- The steps of a ledger's bytes.
 same-steps : {l : List ℕ} {L M : List Step} → Holds l L → Holds l M → L ≡ M

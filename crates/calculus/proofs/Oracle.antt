@@ -9,7 +9,8 @@ use Rattle.formula.specs.declared.Sort.the-variants.{Faces, Intervals}
 use Rattle.calculus.specs.Emit.{not-below, not-implied}
 use Rattle.calculus.specs.Refusal.{full-ledger, failing}
 use Rattle.calculus.specs.Door.{Call, face, interval, boundary, endpoint, forall, shift, substitute, entails, Answer, answered, refused, reply}
-use Rattle.calculus.specs.Demand.{after, empty}
+use Rattle.calculus.specs.Demand.{empty}
+use Rattle.calculus.proofs.Demands.{after}
 use Rattle.calculus.proofs.Replies.{model}
 
 -- What a list of calls comes to: each call's answer and output slices after it, and the ledger after the last.

@@ -14,35 +14,25 @@ use Rattle.formula.specs.Formula.{Face}
 use Rattle.formula.specs.Bytes.{readAll}
 use Rattle.calculus.specs.Judgement
 use Rattle.calculus.specs.Judgement.{Step}
-use Rattle.calculus.specs.Rules.{AllBelow, Valid, Judges, passes, fails}
+use Rattle.calculus.specs.Rules.{AllBelow, Valid, passes, fails}
 use Rattle.calculus.specs.Record.{maxLedger, Holds}
 use Rattle.calculus.specs.Parse.{readLedger}
 use Rattle.calculus.specs.Emit.{not-below, not-implied}
 use Rattle.calculus.specs.Refusal.{failing, number}
 use Rattle.calculus.specs.Door
 use Rattle.calculus.specs.Door.{entails, reply}
-use Rattle.calculus.specs.Demand as model
 use Rattle.calculus.specs.Demand.{empty, Lowest}
-use Rattle.calculus.specs.Desk.{DeskAnswer}
+use Rattle.calculus.specs.Desk.{DeskAnswer, DeskSays, no-ledger, on-steps, DeskGives}
 use Rattle.calculus.proofs.Sound.{valid-true}
-use Rattle.calculus.proofs.Ledgers.{valid-nil}
 use Rattle.calculus.proofs.Records.{read-ledger, ledger-read}
-use Rattle.calculus.proofs.Doors.{call-keeps}
-use Rattle.calculus.proofs.Demands.{empty-holds}
+use Rattle.calculus.proofs.Doors
+use Rattle.calculus.proofs.Demands.{Decided, yes-so, 8-so, 9-so, entails-decided, Fine, empty-fine, call-fine}
 use Rattle.numbers.proofs.NumberLaws.{number-range}
 use Rattle.exports.proofs.FitLaws.{step-low}
-use Rattle.demand.specs.Desk.{DeskSays, no-ledger, on-steps, DeskGives}
 use Rattle.demand.specs.Answering.{Answering, c-numbers, enums}
 use Rattle.demand.specs.Demand
 use Rattle.demand.specs.Demand.{Called, Says, Trace, TrueSteps, Right, NotRefusedTo7, OfCalls, Demand3}
-use Rattle.demand.proofs.Deciding.{Decided, yes-so, 8-so, 9-so, entails-decided}
 use Rattle.demand.proofs.Telling.{Tells, c-numbers-tell, enums-tell}
-
--- A well-formed ledger whose steps all follow.
-record Fine (l : List ℕ) : Type 0 where
-  steps : List Step
-  holds : Holds l steps
-  valid : Valid steps
 
 steps-few : {l : List ℕ} {L : List Step} → Holds l L → length L ≤ maxLedger
 steps-few {L} h = go (length L) refl
@@ -130,7 +120,7 @@ module _ {w : Answering} (tells : Tells w) where
   }
 
   -- None of the refusals 1 to 7 as answered, so none of the calculus'.
-  not-refused : (x : Door.Answer) → NotRefusedTo7 w (w .answer x) → model.NotRefusedTo7 x
+  not-refused : (x : Door.Answer) → NotRefusedTo7 w (w .answer x) → Doors.NotRefusedTo7 x
   not-refused x u q e = late (number q) (λ p. u (number q) (number-range q .0) p (subst (λ (y : Door.Answer). w .Refused (number q) (w .answer y)) (sym e) (tells .no q)))
 
   -- What is demanded of a call.
@@ -148,9 +138,7 @@ module _ {w : Answering} (tells : Tells w) where
   -- Lists of calls --------------------------------------------------------------------------------
 
   says-fine : {l : List ℕ} {c : Called w} → Says w l c → Fine l → Fine (c .ledger)
-  says-fine {l} {c} h f =
-      let k = call-keeps (c .call) l (f .steps) (f .holds) in
-      record { steps = k .steps; holds = subst (λ (m : List ℕ). Holds m (k .steps)) (sym (h .ledger)) (k .holds); valid = k .valid (f .valid) }
+  says-fine {c} h f = subst Fine (sym (h .ledger)) (call-fine (c .call) f)
 
   trace-fine : {l l′ : List ℕ} {cs : List (Called w)} → Trace w l cs l′ → Fine l → Fine l′
   trace-fine Demand.none f = f
@@ -164,7 +152,7 @@ module _ {w : Answering} (tells : Tells w) where
   of-calls : (n : ℕ) → 4 ≤ n → n ≤ maxLedger → (cs : List (Called w)) (l : List ℕ) → Trace w (empty n) cs l → OfCalls w cs l
   unfolding RightCall
   of-calls n p q cs l t =
-      let f : Fine (empty n) = record { steps = []; holds = empty-holds n p q; valid = valid-nil } in
+      let f = empty-fine n p q in
       record { desk = desk-passes (trace-fine t f); entailments = trace-right t f }
 
   demanded : Demand3 w

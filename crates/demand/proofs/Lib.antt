@@ -1,4 +1,3 @@
 pub mod Traces
-pub mod Deciding
 pub mod Telling
 pub mod Demand

@@ -1,38 +1,20 @@
 -- Traces: what the functions' contracts say is what a trace says, and every list of calls has exactly one trace.
 use mathlib.Core.Path.{_≡_, refl, sym, ap, _∙_}
-use mathlib.Core.Option.{Option, none, some}
 use mathlib.Core.List.{List, [], _∷_, map}
 use Prim.Native.Nat.{ℕ}
-use Rattle.calculus.specs.Judgement.{Step}
-use Rattle.calculus.specs.Parse.{readLedger}
 use Rattle.calculus.specs.Door
 use Rattle.calculus.specs.Door.{Call, Reply, reply}
-use Rattle.calculus.specs.Demand.{after}
-use Rattle.calculus.specs.Desk.{DeskAnswer, onSteps, deskAnswer}
-use Rattle.calculus.proofs.Desk.{judge}
+use Rattle.calculus.proofs.Demands.{after}
 use Rattle.replies.specs.Replying.{Replies}
-use Rattle.demand.specs.Desk.{DeskSays, no-ledger, on-steps, DeskGives}
 use Rattle.demand.specs.Answering.{Answering, enums}
 use Rattle.demand.specs.Demand
 use Rattle.demand.specs.Demand.{Called, Says, Trace}
 
--- The contract of a call of `engine`.
+-- The contract of a call of `engine` is what a trace says of it; that of a C function is so field by field.
 pub replies-says : {c : Call} {l l′ : List ℕ} {a : Door.Answer} {outs : List (List ℕ)} → Replies c l a l′ outs → Says enums l (record { call = c; answer = a; ledger = l′; outputs = outs })
 replies-says h =
     let e = sym (h .equal) in
     record { answer = ap (λ (r : Reply). r .answer) e; ledger = ap (λ (r : Reply). r .ledger) e; outputs = ap (λ (r : Reply). r .outputs) e }
-
--- The contract of the desk.
-pub desk-says : (l : List ℕ) → DeskSays l (deskAnswer judge l)
-unfolding deskAnswer
-desk-says l = go (readLedger l) refl
-  where
-    go : (o : Option (List Step)) → readLedger l ≡ o → DeskSays l (onSteps judge o)
-    go none e = no-ledger e
-    go (some L) e = on-steps L e ((judge L) .judges)
-
-pub desk-gives : {A : Type 0} {f : DeskAnswer → A} (l : List ℕ) {r : A} → r ≡ f (deskAnswer judge l) → DeskGives f l r
-desk-gives l e = record { answer = deskAnswer judge l; says = desk-says l; given = e }
 
 module _ (w : Answering) where
   -- What a call answers and leaves on a ledger.

@@ -15,8 +15,8 @@ use Rattle.calculus.specs.Truth.{EntailsBelow, True}
 use Rattle.calculus.specs.Record.{maxLedger}
 use Rattle.calculus.specs.Parse.{readLedger}
 use Rattle.calculus.specs.Door.{Call, entails, reply}
+use Rattle.calculus.specs.Desk.{DeskGives}
 use Rattle.calculus.specs.Demand.{empty, Lowest}
-use Rattle.demand.specs.Desk.{DeskGives}
 use Rattle.demand.specs.Answering.{Answering}
 
 -- A call in a list, with what it answered and what it left.

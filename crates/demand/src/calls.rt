@@ -5,8 +5,8 @@ use replies::Answer;
 use replies::Made;
 ghost use mathlib.Core.List.{[], _∷_};
 ghost use Rattle.calculus.specs.Door.{face as faceCall, interval as intervalCall, boundary as boundaryCall, endpoint as endpointCall, forall as forallCall, shift as shiftCall, substitute as substituteCall, entails as entailsCall};
+ghost use Rattle.calculus.specs.Desk.{DeskGives};
 ghost use Rattle.replies.specs.Replying.{said, saidOne, saidBoth};
-ghost use Rattle.demand.specs.Desk.{DeskGives};
 ghost use Rattle.demand.specs.Answering.{enums};
 ghost use Rattle.demand.specs.Demand.{Says};
 

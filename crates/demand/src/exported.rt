@@ -1,9 +1,9 @@
 // The C functions.
 ghost use mathlib.Core.List.{[], _∷_};
 ghost use Rattle.calculus.specs.Door.{face as faceCall, interval as intervalCall, boundary as boundaryCall, endpoint as endpointCall, forall as forallCall, shift as shiftCall, substitute as substituteCall, entails as entailsCall};
+ghost use Rattle.calculus.specs.Desk.{DeskGives};
 ghost use Rattle.formula.specs.declared.Sort.the-variants.{Faces, Intervals};
 ghost use Rattle.numbers.specs.Answers.{isOne};
-ghost use Rattle.demand.specs.Desk.{DeskGives};
 ghost use Rattle.demand.specs.Answering.{c-numbers};
 ghost use Rattle.demand.specs.Demand.{Says};
 

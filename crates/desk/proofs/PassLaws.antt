@@ -7,11 +7,11 @@ use Prim.Native.Nat.{ℕ, suc, _*_, _≤_, _<_}
 use native.Mathlib.Omega.{arith}
 use lib.ListN.{length}
 use Rattle.calculus.specs.Judgement.{Step}
-use Rattle.calculus.specs.Rules.{stepAt, AllBelow, Follows, Verdict, pass, fail, passes, fails}
+use Rattle.calculus.specs.Rules.{stepAt, AllBelow, Follows, pass, fail, passes, fails}
 use Rattle.calculus.specs.Parse.{readLedger}
-use Rattle.calculus.specs.Desk.{DeskAnswer, unreadable, judged, onSteps, deskAnswer}
+use Rattle.calculus.specs.Desk.{DeskAnswer, unreadable, judged, no-ledger, on-steps, DeskGives}
 use Rattle.calculus.proofs.Records.{ledger-read, read-ledger}
-use Rattle.calculus.proofs.Desk.{judge, desk, judges-desk, Up, one-more}
+use Rattle.calculus.proofs.Desk.{Up, one-more}
 use Rattle.ledger.specs.declared.Checked.the-variants.{Steps, Ill as NoLedger}
 use Rattle.ledger.specs.Checks.{counted}
 use Rattle.ledger.specs.Ledger.{stepsOf, placeOf, Led, Points}
@@ -20,7 +20,7 @@ use Rattle.ledger.proofs.LedgerLaws.{holds-steps, holds-led}
 use Rattle.ledger.proofs.PointLaws.{Walks, walks-start, walks-next}
 use Rattle.ledger.proofs.NotingLaws.{noted-none, few-steps, low-place}
 use Rattle.rules.specs.Standing.{Decides}
-use Rattle.desk.specs.Verdicts.{answerAs, inDocument, Answers}
+use Rattle.desk.specs.Verdicts.{answerAs, inDocument, said, Answers}
 use Rattle.desk.specs.declared.Verdict.{Verdict as Answer}
 use Rattle.desk.specs.declared.Verdict.the-variants.{Ill, Fails, Passes}
 
@@ -52,15 +52,15 @@ module _ {l : List ℕ} {step at : ℕ} {places : List ℕ} (g : Passing l step 
         up = subst (Up (stepsOf l)) (sym (m .0)) (one-more step (g .up) f);
       }
 
-  pub passing-fails : (r : Bool) → step < length (stepsOf l) → r ≡ false → Decides r (Follows (stepsOf l) step (stepAt (stepsOf l) step)) → Fails step ≡ answerAs (judged (desk (stepsOf l)))
+  pub passing-fails : (r : Bool) → step < length (stepsOf l) → r ≡ false → Decides r (Follows (stepsOf l) step (stepAt (stepsOf l) step)) → DeskGives answerAs l (Fails step)
   passing-fails r b e d =
       let f : Follows (stepsOf l) step (stepAt (stepsOf l) step) → ⊥ = subst (λ (t : Bool). Decides t (Follows (stepsOf l) step (stepAt (stepsOf l) step))) e d in
-      ap (λ (v : Verdict). answerAs (judged v)) (judges-desk (fails b (g .up) f))
+      record { answer = judged (fail step); says = on-steps (stepsOf l) (read-ledger (g .walks .led)) (fails b (g .up) f); given = refl }
 
-  pub passing-all : length (stepsOf l) ≤ step → Passes step ≡ answerAs (judged (desk (stepsOf l)))
+  pub passing-all : length (stepsOf l) ≤ step → DeskGives answerAs l (Passes step)
   passing-all b =
       let e : step ≡ length (stepsOf l) = omega (arith, g .walks .among) in
-      ap Passes e ∙ ap (λ (v : Verdict). answerAs (judged v)) (judges-desk (passes (λ i q. g .up i (omega arith))))
+      record { answer = judged (pass (length (stepsOf l))); says = on-steps (stepsOf l) (read-ledger (g .walks .led)) (passes (λ i q. g .up i (omega arith))); given = ap Passes e }
 
 -- On bytes -------------------------------------------------------------------------------------------
 
@@ -71,20 +71,18 @@ counted-led l a {n} h = go (readLedger l) refl h
     go none r h = absurd (let z : _≡_ {A = ℕ} 0 1 = cc in omega arith)
     go (some L) r h = let k = ledger-read l L a r in let e : length L ≡ n = cc in (holds-led k, omega (arith, ap length (holds-steps k)))
 
-pub led-answer : {l : List ℕ} → Led l → answerAs (judged (desk (stepsOf l))) ≡ answerAs (deskAnswer judge l)
-unfolding desk deskAnswer
-led-answer h = ap (λ (o : Option (List Step)). answerAs (onSteps judge o)) (sym (read-ledger h))
-
-pub ill-answer : (l : List ℕ) → counted (readLedger l) ≡ NoLedger → Ill ≡ answerAs (deskAnswer judge l)
-unfolding deskAnswer
-ill-answer l h = go (readLedger l) h
+pub ill-answer : (l : List ℕ) → counted (readLedger l) ≡ NoLedger → DeskGives answerAs l Ill
+ill-answer l h = go (readLedger l) refl h
   where
-    go : (o : Option (List Step)) → counted o ≡ NoLedger → Ill ≡ answerAs (onSteps judge o)
-    go none h = refl
-    go (some L) h = absurd (let z : _≡_ {A = ℕ} 0 1 = cc in omega arith)
+    go : (o : Option (List Step)) → readLedger l ≡ o → counted o ≡ NoLedger → DeskGives answerAs l Ill
+    go none e h = record { answer = unreadable; says = no-ledger e; given = refl }
+    go (some L) e h = absurd (let z : _≡_ {A = ℕ} 0 1 = cc in omega arith)
 
 -- An answer of the calculus says the same in document 01's terms.
-pub answers : (a : DeskAnswer) (r : Answer) → r ≡ answerAs a → Answers a r
-answers unreadable r e = record { gives = e; says = ap inDocument e }
-answers (judged (pass n)) r e = record { gives = e; says = ap inDocument e }
-answers (judged (fail n)) r e = record { gives = e; says = ap inDocument e }
+same-said : (a : DeskAnswer) → inDocument (answerAs a) ≡ said a
+same-said unreadable = refl
+same-said (judged (pass n)) = refl
+same-said (judged (fail n)) = refl
+
+pub answers : {l : List ℕ} {r : Answer} → DeskGives answerAs l r → Answers l r
+answers h = record { gives = h; says = record { answer = h .answer; says = h .says; given = ap inDocument (h .given) ∙ same-said (h .answer) } }

@@ -1,17 +1,17 @@
 -- What an answer of the step desk says of the bytes. Each theorem is about any r that the contract of `step_desk` allows.
 use mathlib.Core.Path.{_≡_, refl, sym, ap, _∙_, subst}
-use mathlib.Core.Option.{Option, none, some}
+use mathlib.Core.Option.{none, some}
 use mathlib.Core.List.{List}
 use Prim.Native.Nat.{ℕ, _<_}
 use native.Mathlib.Omega.{arith}
 use lib.ListN.{length}
 use Rattle.calculus.specs.Judgement.{Step}
-use Rattle.calculus.specs.Rules.{stepAt, judgementAt, Follows, Valid, Verdict, Judges, passes, fails}
+use Rattle.calculus.specs.Rules.{stepAt, judgementAt, Follows, Valid, passes, fails}
 use Rattle.calculus.specs.Truth.{True}
 use Rattle.calculus.specs.Parse.{readLedger}
-use Rattle.calculus.specs.Desk.{judged, onSteps, deskAnswer}
+use Rattle.calculus.specs.Desk.{DeskAnswer, DeskSays, no-ledger, on-steps, DeskGives}
 use Rattle.calculus.proofs.Sound.{valid-true}
-use Rattle.calculus.proofs.Desk.{judge, Up}
+use Rattle.calculus.proofs.Desk.{Up}
 use Rattle.desk.specs.Verdicts.{answerAs, inDocument}
 use Rattle.desk.specs.declared.Verdict.{Verdict as Answer}
 use Rattle.desk.specs.declared.Verdict.the-variants.{Ill, Fails, Passes}
@@ -22,17 +22,10 @@ data Seen (l : List ℕ) : Answer → Type 0 where
   failed : {n : ℕ} (L : List Step) → readLedger l ≡ some L → n < length L → Up L n → (Follows L n (stepAt L n) → ⊥) → Seen l (Fails n)
   passed : {n : ℕ} (L : List Step) → readLedger l ≡ some L → length L ≡ n → Valid L → Seen l (Passes n)
 
-seen : (l : List ℕ) → Seen l (answerAs (deskAnswer judge l))
-unfolding deskAnswer
-seen l = go (readLedger l) refl
-  where
-    on : (L : List Step) {v : Verdict} → readLedger l ≡ some L → Judges L v → Seen l (answerAs (judged v))
-    on L e (passes v) = passed L e refl v
-    on L e (fails b h f) = failed L e b h f
-
-    go : (o : Option (List Step)) → readLedger l ≡ o → Seen l (answerAs (onSteps judge o))
-    go none e = ill e
-    go (some L) e = on L e ((judge L) .judges)
+seen : {l : List ℕ} {a : DeskAnswer} → DeskSays l a → Seen l (answerAs a)
+seen (no-ledger e) = ill e
+seen (on-steps L e (passes v)) = passed L e refl v
+seen (on-steps L e (fails b h f)) = failed L e b h f
 
 -- The bytes read as n steps, and every judgement is true.
 pub record AllTrue (l : List ℕ) (n : ℕ) : Type 0 where
@@ -49,9 +42,9 @@ pub record LowestFailing (l : List ℕ) (n : ℕ) : Type 0 where
   pub lower : (j : ℕ) → j < n → Follows steps j (stepAt steps j)
   pub here : Follows steps n (stepAt steps n) → ⊥
 
-module _ (l : List ℕ) {r : Answer} (e : r ≡ answerAs (deskAnswer judge l)) where
+module _ (l : List ℕ) {r : Answer} (g : DeskGives answerAs l r) where
   which : Seen l r
-  which = subst (Seen l) (sym e) (seen l)
+  which = subst (Seen l) (sym (g .given)) (seen (g .says))
 
   -- Where the desk passes n steps, there are n and each judgement is true, whoever wrote them.
   pub passes-true : {n : ℕ} → r ≡ Passes n → AllTrue l n

@@ -1,10 +1,9 @@
 -- What the step desk answers, and document 01's numbers for it.
-use mathlib.Core.Path.{_≡_}
 use mathlib.Core.List.{List, [], _∷_}
 use Prim.Native.Nat.{ℕ}
 use Rattle.calculus.specs.Rules.{pass, fail}
 use Rattle.calculus.specs.Refusal.{number, ill-formed-ledger, does-not-follow}
-use Rattle.calculus.specs.Desk.{DeskAnswer, unreadable, judged}
+use Rattle.calculus.specs.Desk.{DeskAnswer, unreadable, judged, DeskGives}
 use Rattle.desk.specs.declared.Verdict.{Verdict}
 use Rattle.desk.specs.declared.Verdict.the-variants.{Ill, Fails, Passes}
 
@@ -32,6 +31,6 @@ said (judged (pass n)) = answered (n ∷ [])
 said (judged (fail n)) = refused (number does-not-follow) (n ∷ [])
 
 -- The code's answer is the calculus', and says the same in document 01's terms.
-pub record Answers (a : DeskAnswer) (r : Verdict) : Type 0 where
-  pub gives : r ≡ answerAs a
-  pub says : inDocument r ≡ said a
+pub record Answers (l : List ℕ) (r : Verdict) : Type 0 where
+  pub gives : DeskGives answerAs l r
+  pub says : DeskGives said l (inDocument r)

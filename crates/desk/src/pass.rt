@@ -7,8 +7,7 @@ use ledger::places;
 ghost use mathlib.Core.Path.{_≡_};
 ghost use lib.ListN.{length};
 ghost use Rattle.calculus.specs.Rules.{stepAt, Follows};
-ghost use Rattle.calculus.specs.Desk.{judged, deskAnswer};
-ghost use Rattle.calculus.proofs.Desk.{judge, desk};
+ghost use Rattle.calculus.specs.Desk.{DeskGives};
 ghost use Rattle.ledger.specs.Ledger.{stepsOf, Led, Points};
 ghost use Rattle.ledger.specs.Noting.{Noted};
 ghost use Rattle.rows.specs.Flattening.{Tabled};
@@ -32,7 +31,7 @@ fn follows_at(l: &[u8], table: &[u8; 1540], noted: &[u32], c: Cursor) -> bool
 // The verdict on the n steps of a ledger.
 fn judge_steps(l: &[u8], n: usize) -> Verdict
     requires { ⌜ Led (now l) × (n ≡ length (stepsOf (now l))) ⌝ }
-    ensures { λ r. ⌜ r ≡ answerAs (judged (desk (stepsOf (now (l .entry))))) ⌝ }
+    ensures { λ r. ⌜ DeskGives answerAs (now (l .entry)) r ⌝ }
 {
     let table = rows::table();
     let mut noted = [0u32; 10923];
@@ -53,7 +52,7 @@ fn judge_steps(l: &[u8], n: usize) -> Verdict
 
 // The step desk.
 pub fn step_desk(l: &[u8]) -> Verdict
-    ensures { λ r. ⌜ Answers (deskAnswer judge (now (l .entry))) r ⌝ }
+    ensures { λ r. ⌜ Answers (now (l .entry)) r ⌝ }
 {
     match ledger::well_formed(l) {
         Checked::Steps(n) => judge_steps(l, n),

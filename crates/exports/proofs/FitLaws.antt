@@ -21,8 +21,7 @@ use Rattle.calculus.specs.Parse.{readLedger}
 use Rattle.calculus.specs.Emit.{Outcome, done, stopped, full, within, run}
 use Rattle.calculus.specs.Door
 use Rattle.calculus.specs.Door.{Call, Task, taskOf, outputsOf, Measure, measure, answered, Reply, concluded, reply}
-use Rattle.calculus.specs.Desk.{DeskAnswer, unreadable, judged, deskAnswer}
-use Rattle.calculus.proofs.Desk.{judge}
+use Rattle.calculus.specs.Desk.{DeskAnswer, unreadable, judged, DeskGives}
 use Rattle.calculus.proofs.Doors
 use Rattle.calculus.proofs.Doors.{ItemsKeep, Each, each-some, each-bind, each-of, Passage, turned, ran, passage, answer-no-refusal, call-keeps}
 use Rattle.calculus.proofs.Records.{ledger-read}
@@ -94,7 +93,7 @@ module _ {c : Call} {l l′ : List ℕ} {a : Made} {outs : List (List ℕ)} (b :
   packs-both h = record { fits = λ n z e. let x = answer-fits b h (ap saidBoth e) in (omega (arith, x .0), omega (arith, x .1 .0)) }
 
 -- The step that does not follow is one of the ledger's.
-pub desk-low : (l : List ℕ) → AllBelow 256 l → {v : Verdict} → v ≡ answerAs (deskAnswer judge l) → Low v
+pub desk-low : (l : List ℕ) → AllBelow 256 l → {v : Verdict} → DeskGives answerAs l v → Low v
 desk-low l b h = record { fits = λ n e. let k = fails-lowest l h e in omega (arith, step-low (ledger-read l (k .steps) b (k .reads)) (k .inside)) }
 
 -- The number of what a call says is that of the calculus' reply.
@@ -105,13 +104,13 @@ numbers h e = record {
   outputs = sym (ap (λ (x : Reply). x .outputs) (h .equal));
 }
 
-pub as-desk : (a : DeskAnswer) → verdictNumber (answerAs a) ≡ deskNumber a
+as-desk : (a : DeskAnswer) → verdictNumber (answerAs a) ≡ deskNumber a
 as-desk unreadable = refl
 as-desk (judged (pass n)) = refl
 as-desk (judged (fail n)) = refl
 
-pub desk-number : (l : List ℕ) {v : Verdict} {r : ℕ} → v ≡ answerAs (deskAnswer judge l) → r ≡ verdictNumber v → r ≡ deskNumber (deskAnswer judge l)
-desk-number l h e = e ∙ ap verdictNumber h ∙ as-desk (deskAnswer judge l)
+pub desk-number : {l : List ℕ} {v : Verdict} {r : ℕ} → DeskGives answerAs l v → r ≡ verdictNumber v → DeskGives deskNumber l r
+desk-number h e = record { answer = h .answer; says = h .says; given = e ∙ ap verdictNumber (h .given) ∙ as-desk (h .answer) }
 
 -- Readers and writers ------------------------------------------------------------------------------------
 

@@ -1,3 +1,2 @@
 pub mod FitLaws
 pub mod Looking
-pub mod Demand

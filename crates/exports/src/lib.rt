@@ -4,8 +4,7 @@ ghost use mathlib.Core.Path.{_≡_};
 ghost use mathlib.Core.List.{[], _∷_};
 ghost use Rattle.calculus.specs.Parse.{readLedger};
 ghost use Rattle.calculus.specs.Door.{reply, face as faceCall, interval as intervalCall, boundary as boundaryCall, endpoint as endpointCall, forall as forallCall, shift as shiftCall, substitute as substituteCall, entails as entailsCall};
-ghost use Rattle.calculus.specs.Desk.{deskAnswer};
-ghost use Rattle.calculus.proofs.Desk.{judge};
+ghost use Rattle.calculus.specs.Desk.{DeskGives};
 ghost use Rattle.kinds.specs.Kinds.{nameBytes};
 ghost use Rattle.ledger.specs.Checks.{counted};
 ghost use Rattle.ledger.specs.Ledger.{stepsOf};
@@ -31,7 +30,7 @@ pub extern "C" fn lf_well_formed(ledger: &[u8]) -> u64
 // How many steps the desk passed, refusal 1, or -(10 + 16 * n) where step n is the lowest that does not follow.
 #[no_mangle]
 pub extern "C" fn lf_step_desk(ledger: &[u8]) -> u64
-    ensures { λ r. ⌜ r ≡ deskNumber (deskAnswer judge (now (ledger .entry))) ⌝ }
+    ensures { λ r. ⌜ DeskGives deskNumber (now (ledger .entry)) r ⌝ }
 {
     numbers::verdict(desk::step_desk(ledger))
 }

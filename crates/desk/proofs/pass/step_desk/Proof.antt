@@ -4,7 +4,7 @@ use borrow.Author.Needs.{needs}
 use native.Mathlib.Omega.{arith}
 use mathlib.Core.Path.{sym, _∙_}
 use Rattle.calculus.proofs.Fields.{below-each}
-use Rattle.desk.proofs.PassLaws.{counted-led, led-answer, ill-answer, answers}
+use Rattle.desk.proofs.PassLaws.{counted-led, ill-answer, answers}
 
 well-formed-requires : tie.Need-well-formed-requires
 well-formed-requires c κs = search needs
@@ -19,10 +19,10 @@ enum-told : tie.Need-enum-told
 enum-told c = search needs
 
 returns : tie.Need-returns
-returns c = let l = c .before .before .before .before .before .before .args .l .now in answers _ _ (c .judge-steps .ensures ∙ led-answer (counted-led l (below-each 256 l (λ i p. omega (arith, c .before .before .before .before .before .shared-slice-known .given i))) (sym (c .before .before .before .before .well-formed .ensures) ∙ c .before .before .n .given .1) .0))
+returns c = answers (c .judge-steps .ensures)
 
 returns-2 : tie.Need-returns-2
-returns-2 c = answers _ _ (ill-answer (c .before .before .before .before .args .l .now) (sym (c .before .before .well-formed .ensures) ∙ c .enum-told .given .1))
+returns-2 c = answers (ill-answer (c .before .before .before .before .args .l .now) (sym (c .before .before .well-formed .ensures) ∙ c .enum-told .given .1))
 
 pub step-desk-spec : {M : Type 1} → statement M
 step-desk-spec =
