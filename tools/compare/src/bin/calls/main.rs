@@ -161,6 +161,23 @@ fn asked(call: &Call) -> Vec<Step> {
     producer.path.p.steps
 }
 
+/// The check of a ledger alone.
+fn checked(before: &[Step], length: usize) -> Cells {
+    let ledger = whole(&session(before, length).used(), length);
+    let timed = |_| {
+        let start = Instant::now();
+        std::hint::black_box(library::well_formed(&ledger));
+        start.elapsed()
+    };
+    Cells {
+        ours: Some(median((0..500).map(timed).collect())),
+        rust: None,
+        steps: 0,
+        bytes: 0,
+        answer: format!("{} steps", library::well_formed(&ledger)),
+    }
+}
+
 fn grown_rows(table: &mut Table) {
     let ten_thousand = || grown(10_000);
     let used = fresh(|| session(&ten_thousand(), LONGEST).used().len());
@@ -169,6 +186,7 @@ fn grown_rows(table: &mut Table) {
     for length in [used + 2_048, LONGEST] {
         calls[..4].iter().for_each(|(what, call)| table.row(what, call, &ten_thousand, length));
         table.row("the second of them, asked again", &calls[1].1, &|| asked(&calls[1].1), length);
+        table.print("the check alone (lf_well_formed)", length, &fresh(|| checked(&ten_thousand(), length)));
     }
 }
 
