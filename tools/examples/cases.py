@@ -120,19 +120,29 @@ def measured(word, t):
     return f"{word} bytes %d nodes %d bound %d" % size(t)
 
 
+def refusal(operands, make):
+    """The first question that is answered no, each asked of all operands before the next; or what is made."""
+    if any(t is None for t in operands):
+        return 2, None
+    if any(size(t)[1] > 511 for t in operands):
+        return 3, None
+    if any(size(t)[2] > 255 for t in operands):
+        return 4, None
+    made = make()
+    return (None, made) if all(map(kept, made)) else (5, None)
+
+
 def result(operands, make, rooms):
     """The size alone, then the answer with each lent slice."""
-    if any(t is None for t in operands):
-        return " ill" + "\n".join("; ill" + numbers([255] * n) for n in rooms)
-    made = make() if all(map(kept, operands)) else None
-    if made is None or not all(map(kept, made)):
-        return " over" + "\n".join("; over" + numbers([255] * n) for n in rooms)
+    number, made = refusal(operands, make)
+    if number:
+        return f" refused {number}" + "\n".join(f"; refused {number}" + numbers([255] * n) for n in rooms)
     text = measured(" fits", made[0])
     done = all(size(t)[0] <= n for t, n in zip(made, rooms))
     lines = []
     for t, n in zip(made, rooms):
         left = encode(t) if done else []
-        lines.append(measured("; done" if done else "; short", t) + numbers(left + [255] * (n - len(left))))
+        lines.append((measured("; done", t) if done else "; refused 6") + numbers(left + [255] * (n - len(left))))
     return text + "\n".join(lines)
 
 
@@ -246,6 +256,9 @@ def formulas():
     subst_case("substitute dim 255 for 0 in no bytes:", 0, 0, [], [18, 255])
     subst_case("substitute no bytes for 0 in dim 255:", 1, 0, [18, 255], [])
     subst_case("substitute dim 255 for 0 in 1:", 0, 0, [2, 1], [18, 255])
+    subst_case("substitute dim 255 for 0 in 512 nodes:", 1, 0, [19] * 511 + [16], [18, 255])
+    subst_case("substitute 512 nodes for 0 in dim 255:", 1, 0, [18, 255], [19] * 511 + [16])
+    subst_case("substitute no bytes for 0 in 513 nodes:", 0, 0, [4] * 256 + [0] * 257, [])
     measured_both = {
         "0 for (1' fand 2)": face,
         "meet (dim 0) (neg (dim 0))": meet,

@@ -5,7 +5,7 @@ use mathlib.Core.Path.{_≡_, refl, sym, ap, ap₂, _∙_, subst}
 use mathlib.Core.List.{List, [], _∷_, _++_}
 use lib.ListN.{length, getD, drop}
 use Rattle.formula.specs.declared.Sort.the-variants.{Faces, Intervals}
-use Rattle.formula.specs.declared.Step.the-variants.{Lit, One}
+use Rattle.formula.specs.declared.Advance.the-variants.{Lit, One}
 use Rattle.formula.specs.declared.Place.{Place}
 use Rattle.formula.specs.Formula.{End, lo, hi, other, Face, Interval}
 use Rattle.formula.specs.Operations.{boundary}

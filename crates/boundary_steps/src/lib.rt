@@ -1,7 +1,7 @@
 // The boundary judgements of an interval expression, beside the bytes of its two faces.
+use formula::Advance;
 use formula::Place;
 use formula::Sort;
-use formula::Step;
 use steps::Paired;
 use steps::Ran;
 ghost use mathlib.Core.Path.{_≡_};
@@ -83,15 +83,15 @@ fn boundary_at(
     let at = p.at;
     let from = q.at;
     match p.step(Sort::Intervals, r) {
-        Step::Leaf(e) => {
+        Advance::Leaf(e) => {
             let w = steps::over(Sort::Faces, zero, q);
             boundary_end(l, ix, r, at, e, zero, one, from, w, 0, 0)
         }
-        Step::Lit(e, _) => {
+        Advance::Lit(e, _) => {
             let w = steps::over(Sort::Faces, zero, q);
             boundary_end(l, ix, r, at, e, zero, one, from, w, 0, 0)
         }
-        Step::One(e) => {
+        Advance::One(e) => {
             let a = boundary_at(l, ix, r, e, one, zero, q);
             let under = a.ran;
             if !steps::is_done(under) {
@@ -100,7 +100,7 @@ fn boundary_at(
             let i = steps::step_of(under);
             boundary_end(l, ix, r, at, a.place, zero, one, from, a.image, i, 0)
         }
-        Step::Two(e) => {
+        Advance::Two(e) => {
             let a = boundary_at(l, ix, r, e, zero, one, steps::inside(zero, q));
             let left = a.ran;
             if !steps::is_done(left) {
@@ -115,7 +115,7 @@ fn boundary_at(
             let k = steps::step_of(right);
             boundary_end(l, ix, r, at, b.place, zero, one, from, b.image, i, k)
         }
-        Step::Stuck => steps::nowhere(p, q),
+        Advance::Stuck => steps::nowhere(p, q),
     }
 }
 

@@ -7,7 +7,7 @@ use mathlib.Core.List.{List, [], _∷_, _++_}
 use lib.ListN.{getD}
 use Rattle.formula.specs.declared.Sort.{Sort}
 use Rattle.formula.specs.declared.Sort.the-variants.{Faces, Intervals}
-use Rattle.formula.specs.declared.Step.the-variants.{Leaf, Lit}
+use Rattle.formula.specs.declared.Advance.the-variants.{Leaf, Lit}
 use Rattle.formula.specs.declared.Place.{Place}
 use Rattle.formula.specs.Formula.{Face, Interval, dim}
 use Rattle.formula.specs.Bytes.{Tree, dimBytes, encodeInterval, nodesInterval, boundInterval, lit, nodeOf}

@@ -1,7 +1,7 @@
 // The judgements that all dimensions of a formula are below d: interval and face, once over the sort.
+use formula::Advance;
 use formula::Place;
 use formula::Sort;
-use formula::Step;
 use steps::Ran;
 use steps::Walked;
 ghost use mathlib.Core.Path.{_≡_};
@@ -116,12 +116,12 @@ fn bounded_at(l: &mut [u8], ix: &mut [u32], sort: Sort, d: usize, f: &[u8], p: P
 {
     let at = p.at;
     match p.step(sort, f) {
-        Step::Leaf(q) => bounded_end(l, ix, sort, d, f, at, q, 0, 0),
-        Step::Lit(q, n) => Walked {
+        Advance::Leaf(q) => bounded_end(l, ix, sort, d, f, at, q, 0, 0),
+        Advance::Lit(q, n) => Walked {
             ran: bounded_literal(l, ix, sort, d, n, steps::between(f, at, q)),
             place: q,
         },
-        Step::One(q) => {
+        Advance::One(q) => {
             let a = bounded_at(l, ix, sort, d, f, q);
             let below = a.ran;
             if !steps::is_done(below) {
@@ -129,7 +129,7 @@ fn bounded_at(l: &mut [u8], ix: &mut [u32], sort: Sort, d: usize, f: &[u8], p: P
             }
             bounded_end(l, ix, sort, d, f, at, a.place, steps::step_of(below), 0)
         }
-        Step::Two(q) => {
+        Advance::Two(q) => {
             let a = bounded_at(l, ix, sort, d, f, q);
             let left = a.ran;
             if !steps::is_done(left) {
@@ -144,7 +144,7 @@ fn bounded_at(l: &mut [u8], ix: &mut [u32], sort: Sort, d: usize, f: &[u8], p: P
             let k = steps::step_of(right);
             bounded_end(l, ix, sort, d, f, at, b.place, i, k)
         }
-        Step::Stuck => Walked {
+        Advance::Stuck => Walked {
             ran: Ran::Full,
             place: p,
         },

@@ -13,9 +13,9 @@ use Rattle.calculus.specs.Judgement.{Step}
 use Rattle.calculus.specs.Rules.{Valid}
 use Rattle.calculus.specs.Truth.{EntailsBelow}
 use Rattle.calculus.specs.Record.{number, formula, stepsBytes, ledgerBytes, maxLedger, Holds}
-use Rattle.calculus.specs.Emit.{Outcome, not-below, not-implied, within, run}
+use Rattle.calculus.specs.Emit.{Outcome, within, run}
 use Rattle.calculus.specs.Calls.{emitEntails}
-use Rattle.calculus.specs.Refusal.{full-ledger, failing}
+use Rattle.refusals.specs.declared.Refusal.the-variants.{FullLedger, NotBelow, NotImplied}
 use Rattle.calculus.specs.Door.{Call, entails, item, Task, taskOf, Answer, answered, refused, Reply, concluded, reply}
 use Rattle.calculus.specs.Demand.{empty, Lowest}
 use Rattle.calculus.proofs.Ledgers.{valid-nil}
@@ -31,8 +31,8 @@ use Rattle.calculus.proofs.Doors.{Each, each-some, each-bind, each-of, 
 -- What is answered with the steps L in the ledger: yes with the lowest number, 8 or 9.
 pub data Decided (d : ℕ) (a b : Face) (L : List Step) : Answer → Type 0 where
   yes-so : {n : ℕ} → EntailsBelow d a b → Lowest (Judgement.entails d a b) L n → Decided d a b L (answered n [])
-  8-so : (boundFace a ≤ d → boundFace b ≤ d → ⊥) → Decided d a b L (refused (failing not-below))
-  9-so : boundFace a ≤ d → boundFace b ≤ d → (Entails a b → ⊥) → Decided d a b L (refused (failing not-implied))
+  8-so : (boundFace a ≤ d → boundFace b ≤ d → ⊥) → Decided d a b L (refused NotBelow)
+  9-so : boundFace a ≤ d → boundFace b ≤ d → (Entails a b → ⊥) → Decided d a b L (refused NotImplied)
 
 -- The answer and the steps after a run.
 record Ended (d : ℕ) (α β : Face) (r : Reply) : Type 0 where
@@ -55,7 +55,7 @@ ended : (d : ℕ) (α β : Face) {l : List ℕ} {L : List Step} → Holds l L �
 ended d α β h (claims {n} {M} g f) (done-fits b) (holds-so t) u = record { steps = M; holds = grown-holds h g b; decided = yes-so t (find-lowest (Judgement.entails d α β) M n f) }
 ended d α β h (leaves {M} g) (stopped-fits b) (not-below-so t) u = record { steps = M; holds = grown-holds h g b; decided = 8-so t }
 ended d α β h (leaves {M} g) (stopped-fits b) (not-implied-so p q t) u = record { steps = M; holds = grown-holds h g b; decided = 9-so p q t }
-ended d α β h no-room b no-room-so u = absurd (omega (arith, u full-ledger refl))
+ended d α β h no-room b no-room-so u = absurd (omega (arith, u FullLedger refl))
 
 -- The task of an entailment.
 data EntailsTask (d : ℕ) (a b : List ℕ) : Task → Type 0 where

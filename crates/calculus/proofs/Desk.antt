@@ -6,7 +6,7 @@ use Prim.Native.Nat.{ℕ, zero, suc, _+_, _<_, compare, Ordering, Ordering·lt, 
 use native.Mathlib.Omega.{arith}
 use native.Mathlib.Decide.{decLt}
 use lib.ListN.{length}
-use Rattle.formula.proofs.Compare.{Stands, stands}
+use Rattle.formula.proofs.Compare.{Compares, stands}
 use Rattle.calculus.specs.Judgement.{Step}
 use Rattle.calculus.specs.Rules.{Rule, stepAt, judgementAt, AllBelow, Follows, Valid, Verdict, pass, fail, Judges, passes, fails}
 use Rattle.calculus.specs.Truth.{True}
@@ -40,7 +40,7 @@ Up L n = (j : ℕ) → j < n → Follows L j (stepAt L j)
 pub one-more : {L : List Step} (n : ℕ) → Up L n → Follows L n (stepAt L n) → Up L (suc n)
 one-more {L} n h f j b = go (compare j n) (stands j n)
   where
-    go : (o : Ordering) → Stands o j n → Follows L j (stepAt L j)
+    go : (o : Ordering) → Compares o j n → Follows L j (stepAt L j)
     go Ordering·lt l = h j l
     go Ordering·eq l = rw l f
     go Ordering·gt l = absurd (omega arith)
@@ -76,7 +76,7 @@ one-verdict (passes p) (fails {i} b h f) = absurd (f (p i b))
 one-verdict (fails {i} b h f) (passes p) = absurd (f (p i b))
 one-verdict (fails {i} b h f) (fails {i = j} c g e) = go (compare i j) (stands i j)
   where
-    go : (o : Ordering) → Stands o i j → fail i ≡ fail j
+    go : (o : Ordering) → Compares o i j → fail i ≡ fail j
     go Ordering·lt l = absurd (f (g i l))
     go Ordering·eq l = ap fail l
     go Ordering·gt l = absurd (e (h j l))

@@ -15,9 +15,11 @@ use Rattle.calculus.specs.Rules.{Valid}
 use Rattle.calculus.specs.Record.{nodesIn, boundIn, fewNodes, lowBound, size, ledgerBytes, Holds}
 use Rattle.calculus.specs.Parse.{readLedger}
 use Rattle.calculus.specs.Emit.{Failure, not-below, not-implied, Outcome, within, run}
-use Rattle.calculus.specs.Refusal.{Refusal, number, ill-formed-ledger, not-a-formula, full-ledger, failing}
+use Rattle.refusals.specs.declared.Refusal.{Refusal}
+use Rattle.refusals.specs.declared.Refusal.the-variants.{IllFormedLedger, NotAFormula, FullLedger}
+use Rattle.refusals.specs.Refusals.{number}
 use Rattle.calculus.specs.Door
-use Rattle.calculus.specs.Door.{Answer, Call, Item, item, Task, _>>=_, endOf, taskOf, outputsOf, Measure, measure, answered, refused, Reply, refuse, every, written, Question, ask, firstNo, questions, concluded, admitted, understood, reply}
+use Rattle.calculus.specs.Door.{Answer, Call, Item, item, Task, _>>=_, endOf, taskOf, outputsOf, Measure, measure, answered, refused, Reply, refuse, every, written, Question, ask, firstNo, questions, failing, concluded, admitted, understood, reply}
 use Rattle.calculus.specs.Demand.{Lowest}
 use Rattle.calculus.proofs.Finding.{find-lowest}
 use Rattle.calculus.proofs.Growing.{Extends, extends-refl, Grown, grown-extends, grown-valid, grown-formed, Good, claims, leaves, no-room}
@@ -110,7 +112,7 @@ admitted-passage c l L t e none n =
 admitted-passage c l L t e (some r) n = turned r (first-early (questions t (outputsOf c)) (omega arith) r n)
 
 understood-passage : (c : Call) (l : List ℕ) (L : List Step) (o : Option Task) → taskOf c ≡ o → Passage c l L (understood l (outputsOf c) L o)
-understood-passage c l L none e = turned not-a-formula (omega arith)
+understood-passage c l L none e = turned NotAFormula (omega arith)
 understood-passage c l L (some t) e = admitted-passage c l L t e (firstNo (questions t (outputsOf c))) refl
 
 pub passage : (c : Call) (l : List ℕ) (L : List Step) → readLedger l ≡ some L → Passage c l L (reply c l)
@@ -118,11 +120,11 @@ unfolding reply
 passage c l L e = rw e (understood-passage c l L (taskOf c) refl)
 
 -- The reply by the first question that is answered no.
-pub unreadable : (c : Call) (l : List ℕ) → readLedger l ≡ none → reply c l ≡ refuse ill-formed-ledger l (outputsOf c)
+pub unreadable : (c : Call) (l : List ℕ) → readLedger l ≡ none → reply c l ≡ refuse IllFormedLedger l (outputsOf c)
 unfolding reply
 unreadable c l e = rw e
 
-pub not-read : (c : Call) (l : List ℕ) (L : List Step) → readLedger l ≡ some L → taskOf c ≡ none → reply c l ≡ refuse not-a-formula l (outputsOf c)
+pub not-read : (c : Call) (l : List ℕ) (L : List Step) → readLedger l ≡ some L → taskOf c ≡ none → reply c l ≡ refuse NotAFormula l (outputsOf c)
 unfolding reply
 not-read c l L e f = rw (e, f)
 
@@ -237,7 +239,7 @@ ended-again outs t {l} {l₂} {L} {M} {N} h h₂ x (claims {n} {M = O} g f) (don
 ended-again outs t {l} {l₂} {L} {M} {N} h h₂ x (leaves {e = y} {M = O} g) (stopped-fits b) e k u =
     let s : M ≡ O = same-steps k (grown-holds h g b) in
     rw (stopped-again (within (length l)) (within (length l₂)) (t .program) L O N y e (rw s at x), ← (h₂ .bytes))
-ended-again outs t h h₂ x no-room b e k u = absurd (omega (arith, u full-ledger refl))
+ended-again outs t h h₂ x no-room b e k u = absurd (omega (arith, u FullLedger refl))
 
 -- Theorem 6: a call not refused by 1 to 7, made again on any ledger that extends the one it left, appends nothing and answers the same.
 pub call-again : (c : Call) (l l₂ : List ℕ) (L M N : List Step) → Holds l L → Holds ((reply c l) .ledger) M → Holds l₂ N → Extends M N

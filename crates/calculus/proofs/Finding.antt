@@ -5,7 +5,7 @@ use mathlib.Core.List.{List, [], _∷_, _++_}
 use Prim.Native.Nat.{ℕ, zero, suc, _<_, compare, Ordering, Ordering·lt, Ordering·eq, Ordering·gt}
 use native.Mathlib.Omega.{arith}
 use lib.ListN.{length}
-use Rattle.formula.proofs.Compare.{Stands, stands}
+use Rattle.formula.proofs.Compare.{Compares, stands}
 use Rattle.calculus.specs.Judgement.{Judgement, Step, sameJudgement}
 use Rattle.calculus.specs.Rules.{judgementAt}
 use Rattle.calculus.specs.Emit.{here, find}
@@ -56,7 +56,7 @@ find-none j (s ∷ L) e i b = go (sameJudgement (s .judgement) j) e i b (find-no
 pub one-lowest : {j : Judgement} {L : List Step} {m n : ℕ} → Lowest j L m → Lowest j L n → m ≡ n
 one-lowest {m} {n} k l = go (compare m n) (stands m n)
   where
-    go : (o : Ordering) → Stands o m n → m ≡ n
+    go : (o : Ordering) → Compares o m n → m ≡ n
     go Ordering·lt b = absurd (l .least m b (k .same))
     go Ordering·eq b = b
     go Ordering·gt b = absurd (k .least n b (l .same))

@@ -18,7 +18,7 @@ pub mod Repeating
 pub mod Verdicts
 pub mod Doors
 pub mod Demands
-pub mod Replies
+pub mod CallExamples
 pub mod Oracle
 pub mod Memory
 pub mod Marking

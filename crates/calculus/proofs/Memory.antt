@@ -211,24 +211,24 @@ fits-close room G g h f z (out-fits N n e t x p) = out-fits N n e t (grown-out x
 -- The goal is split only in a context without compounds -----------------------------------
 
 -- What is known where a move splits a for of the goal, and where there is none.
-record Leaves (P Q : Type 0) (m : Move) : Type 0 where
+record Followed (P Q : Type 0) (m : Move) : Type 0 where
   splits : (x y : Face) → m ≡ by-or-right x y → P
   none : m ≡ stuck → Q
 
 -- Other things known where there is none.
-leaves-with : {P Q R : Type 0} {m : Move} → Leaves P Q m → (m ≡ stuck → R) → Leaves P R m
+leaves-with : {P Q R : Type 0} {m : Move} → Followed P Q m → (m ≡ stuck → R) → Followed P R m
 leaves-with l f = record { splits = l .splits; none = f }
 
 -- A move that is one.
-leaves-some : {P Q R : Type 0} {m : Move} → Leaves P Q m → (m ≡ stuck → false ≡ true) → Leaves P R m
+leaves-some : {P Q R : Type 0} {m : Move} → Followed P Q m → (m ≡ stuck → false ≡ true) → Followed P R m
 leaves-some l f = leaves-with l (λ e. absurd (false≢true (f e)))
 
 -- A move that splits no for of the goal.
-leaves-not : {P : Type 0} {m : Move} → ((x y : Face) → m ≡ by-or-right x y → false ≡ true) → Leaves P (Unit {0}) m
+leaves-not : {P : Type 0} {m : Move} → ((x y : Face) → m ≡ by-or-right x y → false ≡ true) → Followed P (Unit {0}) m
 leaves-not f = record { splits = λ x y e. absurd (false≢true (f x y e)); none = λ e. tt }
 
 -- A try, and where it is stuck the next.
-leaves-else : {P Q R : Type 0} (m n : Move) → Leaves P Q m → (Q → Leaves P R n) → Leaves P R (m else n)
+leaves-else : {P Q R : Type 0} (m n : Move) → Followed P Q m → (Q → Followed P R n) → Followed P R (m else n)
 leaves-else by-top n l k = leaves-some l (λ e. cc)
 leaves-else by-hit n l k = leaves-some l (λ e. cc)
 leaves-else by-absurd n l k = leaves-some l (λ e. cc)
@@ -240,18 +240,18 @@ leaves-else (by-or-right x y) n l k = leaves-some l (λ e. cc)
 leaves-else stuck n l k = k (l .none refl)
 
 -- Each try.
-leaves-top : {P : Type 0} (g : Face) → Leaves P (Unit {0}) (tryTop g)
+leaves-top : {P : Type 0} (g : Face) → Followed P (Unit {0}) (tryTop g)
 leaves-top ff = leaves-not (λ x y e. cc)
 leaves-top ft = leaves-not (λ x y e. cc)
 leaves-top (at e n) = leaves-not (λ x y e. cc)
 leaves-top (fand x y) = leaves-not (λ x y e. cc)
 leaves-top (for x y) = leaves-not (λ x y e. cc)
 
-leaves-provided : {P : Type 0} (b : Bool) {m : Move} → Leaves P (Unit {0}) m → Leaves P (Unit {0}) (provided b m)
+leaves-provided : {P : Type 0} (b : Bool) {m : Move} → Followed P (Unit {0}) m → Followed P (Unit {0}) (provided b m)
 leaves-provided true l = l
 leaves-provided false l = leaves-not (λ x y e. cc)
 
-leaves-clash-of : {P : Type 0} (G : List Face) (f : Face) → Leaves P (Unit {0}) (clashOf G f)
+leaves-clash-of : {P : Type 0} (G : List Face) (f : Face) → Followed P (Unit {0}) (clashOf G f)
 leaves-clash-of G ff = leaves-not (λ x y e. cc)
 leaves-clash-of G ft = leaves-not (λ x y e. cc)
 leaves-clash-of G (at lo n) = leaves-provided (has (at hi n) G) (leaves-not (λ x y e. cc))
@@ -259,12 +259,12 @@ leaves-clash-of G (at hi n) = leaves-provided (has (at lo n) G) (leaves-not (λ 
 leaves-clash-of G (fand x y) = leaves-not (λ x y e. cc)
 leaves-clash-of G (for x y) = leaves-not (λ x y e. cc)
 
-leaves-clash : {P : Type 0} (G H : List Face) → Leaves P (Unit {0}) (tryClash G H)
+leaves-clash : {P : Type 0} (G H : List Face) → Followed P (Unit {0}) (tryClash G H)
 unfolding tryClash
 leaves-clash G [] = leaves-not (λ x y e. cc)
 leaves-clash G (f ∷ H) = leaves-else (clashOf G f) (tryClash G H) (leaves-clash-of G f) (λ t. leaves-clash G H)
 
-leaves-split : {P : Type 0} (b : List Face) (f : Face) (a : List Face) → Leaves P (nodesFace f ≡ 1) (splitOf b f a)
+leaves-split : {P : Type 0} (b : List Face) (f : Face) (a : List Face) → Followed P (nodesFace f ≡ 1) (splitOf b f a)
 unfolding nodesFace
 leaves-split b ff a = leaves-with (leaves-not (λ x y e. cc)) (λ e. refl)
 leaves-split b ft a = leaves-with (leaves-not (λ x y e. cc)) (λ e. refl)
@@ -272,18 +272,18 @@ leaves-split b (at d n) a = leaves-with (leaves-not (λ x y e. cc)) (λ e. refl)
 leaves-split b (fand x y) a = leaves-with (leaves-not (λ x y e. cc)) (λ e. cc)
 leaves-split b (for x y) a = leaves-with (leaves-not (λ x y e. cc)) (λ e. cc)
 
-leaves-left : {P : Type 0} (b a : List Face) → Leaves P (nodesContext a ≡ length a) (tryLeft b a)
+leaves-left : {P : Type 0} (b a : List Face) → Followed P (nodesContext a ≡ length a) (tryLeft b a)
 unfolding tryLeft nodesContext
 leaves-left b [] = leaves-with (leaves-not (λ x y e. cc)) (λ e. refl)
 leaves-left b (f ∷ a) =
     let l = leaves-left (b ++ f ∷ []) a in
     leaves-else (splitOf b f a) (tryLeft (b ++ f ∷ []) a) (leaves-split b f a) (λ d. leaves-with l (λ e. omega (arith, l .none e)))
 
-leaves-right : {P : Type 0} (g : Face) → P → Leaves P (Unit {0}) (tryRight g)
+leaves-right : {P : Type 0} (g : Face) → P → Followed P (Unit {0}) (tryRight g)
 leaves-right g p = record { splits = λ x y e. p; none = λ e. tt }
 
 -- Where a for of the goal is split each assumption is one node.
-leaves-move : (G : List Face) (g : Face) → Leaves (nodesContext G ≡ length G) (Unit {0}) (move G g)
+leaves-move : (G : List Face) (g : Face) → Followed (nodesContext G ≡ length G) (Unit {0}) (move G g)
 unfolding move
 leaves-move G g =
     leaves-else (tryTop g) _ (leaves-top g) (λ t.
@@ -310,7 +310,7 @@ Keeps A k n s c = (M : List Judgement) (i : ℕ) (G : List Face) (g : Face) → 
     → Fits A k 0 0 (nodesContext G + nodesFace g) (length G) M i (s G g) (c M i G g)
 
 makes-fits : {A : Type 0} (k n : ℕ) (s : List Face → Face → Bool) (c : List Judgement → ℕ → List Face → Face → Result) → Keeps A k n s c
-    → {P : Type 0} {G : List Face} {g : Face} {m : Move} → Moves P G g m → Leaves (nodesContext G ≡ length G) (Unit {0}) m
+    → {P : Type 0} {G : List Face} {g : Face} {m : Move} → Moves P G g m → Followed (nodesContext G ≡ length G) (Unit {0}) m
     → (M : List Judgement) (i : ℕ) → AllTrue M → nodesContext G + nodesFace g ≤ suc n → nodesFace g ≤ k
     → Fits A k 1 k (nodesContext G + nodesFace g) (length G) M i (act s G g m) (makes c M (suc i) G g m)
 unfolding nodesFace nodesContext

@@ -6,15 +6,14 @@ use mathlib.Core.List.{List, [], _∷_}
 use Prim.Native.Nat.{ℕ}
 use lib.ListN.{replicate}
 use Rattle.formula.specs.declared.Sort.the-variants.{Faces, Intervals}
-use Rattle.calculus.specs.Emit.{not-below, not-implied}
-use Rattle.calculus.specs.Refusal.{full-ledger, failing}
+use Rattle.refusals.specs.declared.Refusal.the-variants.{FullLedger, NotBelow, NotImplied}
 use Rattle.calculus.specs.Door.{Call, face, interval, boundary, endpoint, forall, shift, substitute, entails, Answer, answered, refused, reply}
 use Rattle.calculus.specs.Demand.{empty}
 use Rattle.calculus.proofs.Demands.{after}
-use Rattle.calculus.proofs.Replies.{model}
+use Rattle.calculus.proofs.CallExamples.{model}
 
 -- What a list of calls comes to: each call's answer and output slices after it, and the ledger after the last.
-record Outcome : Type 0 where
+record Expected : Type 0 where
   answers : List (Answer × List (List ℕ))
   ledger : List ℕ
 
@@ -24,7 +23,7 @@ said l [] = []
 said l (c ∷ cs) = ((reply c l) .answer, (reply c l) .outputs) ∷ said ((reply c l) .ledger) cs
 
 -- These calls from an empty ledger of n bytes.
-asked : ℕ → List Call → Outcome
+asked : ℕ → List Call → Expected
 asked n cs = record { answers = said (empty n) cs; ledger = after (empty n) cs }
 
 -- The listing of document 01.
@@ -144,9 +143,9 @@ list-4 : asked 2048 (
     ≡ record {
       answers =
           (answered 9 [], []) ∷
-          (refused (failing not-below), []) ∷
+          (refused NotBelow, []) ∷
           (answered 13 [], []) ∷
-          (refused (failing not-implied), []) ∷
+          (refused NotImplied, []) ∷
           (answered 22 [], []) ∷
           [];
       ledger =
@@ -244,7 +243,7 @@ list-7 : asked 2048 (
       answers =
           (answered 14 [], []) ∷
           (answered 18 [], []) ∷
-          (refused (failing not-implied), []) ∷
+          (refused NotImplied, []) ∷
           [];
       ledger =
           89 ∷ 1 ∷ 0 ∷ 0 ∷
@@ -484,9 +483,9 @@ list-14 : asked 320 (
       answers =
           (answered 7 [], []) ∷
           (answered 17 [], []) ∷
-          (refused full-ledger, []) ∷
-          (refused full-ledger, []) ∷
-          (refused full-ledger, []) ∷
+          (refused FullLedger, []) ∷
+          (refused FullLedger, []) ∷
+          (refused FullLedger, []) ∷
           (answered 6 [], []) ∷
           (answered 18 [], []) ∷
           [];

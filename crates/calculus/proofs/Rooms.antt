@@ -25,27 +25,27 @@ fitted room (stopped e M) = ifRoom (room M) (stopped e M)
 fitted room full = full
 
 -- The outcome leaves the steps M, which extend L.
-data Leaves (L : List Step) : Outcome → List Step → Type 0 where
-  by-done : {n : ℕ} {M : List Step} → Extends L M → Leaves L (done n M) M
-  by-stopped : {e : Failure} {M : List Step} → Extends L M → Leaves L (stopped e M) M
+data Remains (L : List Step) : Outcome → List Step → Type 0 where
+  by-done : {n : ℕ} {M : List Step} → Extends L M → Remains L (done n M) M
+  by-stopped : {e : Failure} {M : List Step} → Extends L M → Remains L (stopped e M) M
 
-farther : {L M N : List Step} {o : Outcome} → Extends L M → Leaves M o N → Leaves L o N
+farther : {L M N : List Step} {o : Outcome} → Extends L M → Remains M o N → Remains L o N
 farther x (by-done y) = by-done (extends-trans x y)
 farther x (by-stopped y) = by-stopped (extends-trans x y)
 
 -- Without bounds a run leaves steps.
 record Left (L : List Step) (o : Outcome) : Type 0 where
   steps : List Step
-  leaves : Leaves L o steps
+  leaves : Remains L o steps
 
 left-on : {L M : List Step} {o : Outcome} → Extends L M → Left M o → Left L o
 left-on x l = record { steps = l .steps; leaves = farther x (l .leaves) }
 
-next-left : {L : List Step} {o : Outcome} {k : ℕ → List Step → Outcome} {M : List Step} → Leaves L o M → ((n : ℕ) (M : List Step) → Left M (k n M)) → Left L (next o k)
+next-left : {L : List Step} {o : Outcome} {k : ℕ → List Step → Outcome} {M : List Step} → Remains L o M → ((n : ℕ) (M : List Step) → Left M (k n M)) → Left L (next o k)
 next-left (by-done {n} {M} x) h = left-on x (h n M)
 next-left (by-stopped {M} x) h = record { steps = M; leaves = by-stopped x }
 
-instead-left : {L : List Step} {o : Outcome} {k : ℕ → List Step → Outcome} {r : List Step → Outcome} {M : List Step} → Leaves L o M
+instead-left : {L : List Step} {o : Outcome} {k : ℕ → List Step → Outcome} {r : List Step → Outcome} {M : List Step} → Remains L o M
     → ((n : ℕ) (M : List Step) → Left M (k n M)) → ((M : List Step) → Left M (r M)) → Left L (instead o k r)
 instead-left (by-done {n} {M} x) h g = left-on x (h n M)
 instead-left (by-stopped {M} x) h g = left-on x (g M)
@@ -66,8 +66,8 @@ run-left (attempt p q r) L = instead-left ((run-left p L) .leaves) (λ n M. run-
 
 -- The outcome without bounds, and the one where there is room for some ledgers only.
 data Fits (room : List Step → Bool) (L : List Step) : Outcome → Outcome → Type 0 where
-  fits : {o : Outcome} {M : List Step} → Leaves L o M → room M ≡ true → Fits room L o o
-  over : {o : Outcome} {M : List Step} → Leaves L o M → room M ≡ false → Fits room L o full
+  fits : {o : Outcome} {M : List Step} → Remains L o M → room M ≡ true → Fits room L o o
+  over : {o : Outcome} {M : List Step} → Remains L o M → room M ≡ false → Fits room L o full
 
 fits-on : {room : List Step → Bool} {L M : List Step} {o u : Outcome} → Extends L M → Fits room M o u → Fits room L o u
 fits-on x (fits l h) = fits (farther x l) h
@@ -82,7 +82,7 @@ fits-fitted (over (by-stopped x) h) = rw h
 -- Room for a ledger is room for each that it extends.
 module _ (room : List Step → Bool) (smaller : (L M : List Step) → Extends L M → room M ≡ true → room L ≡ true) where
   -- Once over, over for good.
-  still : {L M N : List Step} {o : Outcome} → Extends L M → room M ≡ false → Leaves M o N → Fits room L o full
+  still : {L M N : List Step} {o : Outcome} → Extends L M → room M ≡ false → Remains M o N → Fits room L o full
   still {M} {N} x h (by-done y) = over (by-done (extends-trans x y)) (eq-false-of-not-eq-true (λ t. true≢false (sym (smaller M N y t) ∙ h)))
   still {M} {N} x h (by-stopped y) = over (by-stopped (extends-trans x y)) (eq-false-of-not-eq-true (λ t. true≢false (sym (smaller M N y t) ∙ h)))
 

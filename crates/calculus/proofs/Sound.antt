@@ -9,7 +9,7 @@ use lib.ListN.{length}
 use Rattle.formula.specs.Formula.{End, lo, hi, Face, fand, for, Interval, i0, i1, dim, neg, meet, join, Val, v0, v1, vu, negV, meetV, joinV, is, Assignment, value, holds, beside, raised}
 use Rattle.formula.specs.Operations
 use Rattle.formula.specs.Bytes.{boundFace, boundInterval}
-use Rattle.formula.proofs.Compare.{compare-lt, compare-eq, compare-gt, Stands, stands}
+use Rattle.formula.proofs.Compare.{compare-lt, compare-eq, compare-gt, Compares, stands}
 use Rattle.formula.proofs.Meaning.{boundary-holds}
 use Rattle.calculus.specs.Judgement.{Judgement, Step}
 use Rattle.calculus.specs.Rules
@@ -86,7 +86,7 @@ upper {r} h σ = h .at-one σ ∙ sym (boundary-holds hi r σ)
 raised-ge : (k n : ℕ) → k ≤ n → raised k n ≡ suc n
 raised-ge k n h = go (compare n k) (stands n k)
   where
-    go : (o : Ordering) → Stands o n k → beside o n (suc n) (suc n) ≡ suc n
+    go : (o : Ordering) → Compares o n k → beside o n (suc n) (suc n) ≡ suc n
     go Ordering·lt l = absurd (omega arith)
     go Ordering·eq l = refl
     go Ordering·gt l = refl

@@ -15,9 +15,10 @@ use Rattle.calculus.specs.Judgement
 use Rattle.calculus.specs.Judgement.{Judgement, Step}
 use Rattle.calculus.specs.Record.{Field, number, index, formula, Value, fieldBytes, nodesIn, boundIn, fewNodes, lowBound, ledgerBytes}
 use Rattle.calculus.specs.Parse.{readLedger}
-use Rattle.calculus.specs.Emit.{Program, Outcome, done, stopped, full, within, run}
+use Rattle.calculus.specs.Emit.{Program, Failure, not-below, not-implied, Outcome, done, stopped, full, within, run}
 use Rattle.calculus.specs.Calls.{side, emitInterval, emitFace, emitEntails, bounds, emitBoundary, emitEndpoint, foralls, emitForall, transform, transforms, emitTransform}
-use Rattle.calculus.specs.Refusal.{Refusal, ill-formed-ledger, not-a-formula, too-many-nodes, large-dimension, large-result, short-output, full-ledger, failing}
+use Rattle.refusals.specs.declared.Refusal.{Refusal}
+use Rattle.refusals.specs.declared.Refusal.the-variants.{IllFormedLedger, NotAFormula, TooManyNodes, LargeDimension, LargeResult, ShortOutput, FullLedger, NotBelow, NotImplied}
 
 -- A call with its numbers, the bytes of its operands, and its output slices as they are before it.
 pub data Call : Type 0 where
@@ -177,17 +178,22 @@ firstNo (ask b r ∷ qs) = first b r (firstNo qs)
 -- Questions 3 to 6, each asked of all that it concerns.
 abbrev pub questions : Task → List (List ℕ) → List Question
 questions t outs =
-    ask (every fewNodes (t .operands)) too-many-nodes ∷
-    ask (every lowBound (t .operands)) large-dimension ∷
-    ask (every fewNodes (t .results) && every lowBound (t .results)) large-result ∷
-    ask (longEnough (t .results) outs) short-output ∷
+    ask (every fewNodes (t .operands)) TooManyNodes ∷
+    ask (every lowBound (t .operands)) LargeDimension ∷
+    ask (every fewNodes (t .results) && every lowBound (t .results)) LargeResult ∷
+    ask (longEnough (t .results) outs) ShortOutput ∷
     []
+
+-- The refusal of a call that stops.
+abbrev pub failing : Failure → Refusal
+failing not-below = NotBelow
+failing not-implied = NotImplied
 
 -- Questions 7 to 9: how the run ended. 7 leaves every byte, 8 and 9 the steps and the outputs unwritten.
 abbrev pub concluded : List ℕ → List (List ℕ) → List Item → Outcome → Reply
 concluded l outs rs (done n M) = record { answer = answered n (map measure rs); ledger = ledgerBytes (length l) M; outputs = written rs outs }
 concluded l outs rs (stopped e M) = record { answer = refused (failing e); ledger = ledgerBytes (length l) M; outputs = outs }
-concluded l outs rs full = refuse full-ledger l outs
+concluded l outs rs full = refuse FullLedger l outs
 
 -- After questions 3 to 6.
 abbrev pub admitted : List ℕ → List (List ℕ) → List Step → Task → Option Refusal → Reply
@@ -196,12 +202,12 @@ admitted l outs L t none = concluded l outs (t .results) (run (within (length l)
 
 -- After question 2.
 abbrev pub understood : List ℕ → List (List ℕ) → List Step → Option Task → Reply
-understood l outs L none = refuse not-a-formula l outs
+understood l outs L none = refuse NotAFormula l outs
 understood l outs L (some t) = admitted l outs L t (firstNo (questions t outs))
 
 -- After question 1.
 abbrev pub opened : List ℕ → List (List ℕ) → Option Task → Option (List Step) → Reply
-opened l outs t none = refuse ill-formed-ledger l outs
+opened l outs t none = refuse IllFormedLedger l outs
 opened l outs t (some L) = understood l outs L t
 
 -- A call on a ledger's bytes.

@@ -8,7 +8,6 @@ pub mod Record
 pub mod Parse
 pub mod Emit
 pub mod Calls
-pub mod Refusal
 pub mod Door
 pub mod Desk
 pub mod Demand

@@ -15,25 +15,24 @@ use Rattle.formula.specs.Bytes.{encode, nodes, maxNodes}
 use Rattle.formula.specs.Answers.{pick}
 use Rattle.operations.proofs.ResultLaws.{len-short}
 use Rattle.calculus.specs.Record.{maxLedger}
-use Rattle.calculus.specs.Refusal.{not-accepted, short-output}
+use Rattle.refusals.specs.declared.Refusal.{Refusal}
+use Rattle.refusals.specs.declared.Refusal.the-variants.{ShortOutput, NotAccepted}
+use Rattle.refusals.specs.Refusals.{Result, refused, done}
 use Rattle.calculus.specs.Door
 use Rattle.calculus.specs.Door.{answered, entails, reply}
 use Rattle.calculus.proofs.Demands.{empty-holds}
 use Rattle.calculus.proofs.Doors.{call-keeps}
 use Rattle.ledger.specs.Ledger.{Led}
 use Rattle.ledger.proofs.LedgerLaws.{holds-led, many, place-next, place-end}
-use Rattle.refusals.specs.Refusals.{refusalOf}
-use Rattle.refusals.specs.declared.Refusal.{Refusal}
-use Rattle.refusals.specs.declared.Refusal.the-variants.{NotAccepted}
-use Rattle.text.specs.Reading.{Outcome, refused, done, Claimed, readClaim}
+use Rattle.text.specs.Reading.{Claimed, readClaim}
 use Rattle.text.specs.Answers.{bothDelivered, saidClaim, ReadsClaim, Lengths, BothDelivered}
 use Rattle.text.specs.declared.Claim.{Claim}
 use Rattle.text.specs.declared.Claim.the-variants.{Read, Refused}
 use Rattle.text.proofs.WholeLaws.{made-front}
 use Rattle.grammar.proofs.Accepting.{ClaimWithin, claim-read}
 use Rattle.replies.specs.Replying.{said, Replies}
-use Rattle.replies.specs.declared.Answer.{Answer}
-use Rattle.replies.specs.declared.Answer.the-variants.{Step as StepAnswer, Refused as RefusedAnswer}
+use Rattle.replies.specs.declared.Called.{Called}
+use Rattle.replies.specs.declared.Called.the-variants.{Step as StepAnswer, Refused as RefusedAnswer}
 use Rattle.claims.specs.Facesteps.{firstLine, lineClaim, blank, asked}
 use Rattle.claims.specs.Printing.{Asks}
 
@@ -97,7 +96,7 @@ pub record Got (text : List ℕ) (d x y : ℕ) (a b : List ℕ) : Type 0 where
 
 abbrev pub ReadAs : List ℕ → Claim → List ℕ → List ℕ → Type 0
 ReadAs text (Read d x y) a b = Got text d x y a b
-ReadAs text (Refused q) a b = readClaim text ≡ refused (refusalOf q)
+ReadAs text (Refused q) a b = readClaim text ≡ refused q
 
 -- A face within the limits fits into the scratch bytes.
 face-fits : (f : Face) → nodes Faces f ≤ maxNodes → length (encode Faces f) ≤ 1022
@@ -110,20 +109,20 @@ put-all c a b h k w =
     let y = encode Faces (c .right) in
     let p : leb (length x) (length a) ≡ true = le-leb (length x) (length a) (omega (arith, face-fits (c .left) (w .1 .0), h)) in
     let q : leb (length y) (length b) ≡ true = le-leb (length y) (length b) (omega (arith, face-fits (c .right) (w .2 .0), k)) in
-    ap₂ (λ (s t : Bool). pick (s && t) (record { answer = done (record { dimensions = c .dimensions; left = length x; right = length y }); left = sets a 0 x; right = sets b 0 y }) (record { answer = refused short-output; left = a; right = b })) p q
+    ap₂ (λ (s t : Bool). pick (s && t) (record { answer = done (record { dimensions = c .dimensions; left = length x; right = length y }); left = sets a 0 x; right = sets b 0 y }) (record { answer = refused ShortOutput; left = a; right = b })) p q
 
-not-done : {A B : Type 0} {e : _} {x : A} → _≡_ {A = Outcome A} (refused e) (done x) → B
+not-done : {A B : Type 0} {e : _} {x : A} → _≡_ {A = Result A} (refused e) (done x) → B
 not-done p = absurd (let z : _≡_ {A = ℕ} 0 1 = cc in omega arith)
 
 -- The refusal of one reading, as that of another.
-again : {A B : Type 0} → B → Outcome A → Outcome B
+again : {A B : Type 0} → B → Result A → Result B
 again b (refused e) = refused e
 again b (done v) = done b
 
 anyClaim : Claimed
 anyClaim = record { dimensions = 0; left = ff; right = ff }
 
-lengthsIn : Outcome Lengths → Lengths
+lengthsIn : Result Lengths → Lengths
 lengthsIn (refused e) = record { dimensions = 0; left = 0; right = 0 }
 lengthsIn (done v) = v
 
@@ -131,7 +130,7 @@ pub read-as : (text : List ℕ) {a b a′ b′ : List ℕ} {r : Claim} → lengt
 unfolding again lengthsIn
 read-as text {a} {b} {a′} {b′} {r} h k e = by r (readClaim text) refl (e .equal)
   where
-    by : (r : Claim) (o : Outcome Claimed) → readClaim text ≡ o → bothDelivered o a b ≡ record { answer = saidClaim r; left = a′; right = b′ } → ReadAs text r a′ b′
+    by : (r : Claim) (o : Result Claimed) → readClaim text ≡ o → bothDelivered o a b ≡ record { answer = saidClaim r; left = a′; right = b′ } → ReadAs text r a′ b′
     by (Refused q) (refused x) i j = i ∙ ap (λ (d : BothDelivered). again anyClaim (d .answer)) j
     by (Read d x y) (refused z) i j = not-done (ap (λ (d : BothDelivered). d .answer) j)
     by (Refused q) (done c) i j = not-done (sym (ap (λ (d : BothDelivered). d .answer) (sym (put-all c a b h k (claim-read text c i .1)) ∙ j)))
@@ -156,7 +155,7 @@ read-as text {a} {b} {a′} {b′} {r} h k e = by r (readClaim text) refl (e .eq
 pub got-as : {text a b : List ℕ} {r : Claim} {d x y : ℕ} → ReadAs text r a b → r ≡ Read d x y → Got text d x y a b
 got-as {text} {a} {b} h e = subst (λ (r : Claim). ReadAs text r a b) e h
 
-pub none-as : (text a b : List ℕ) {r : Claim} {q : Refusal} → ReadAs text r a b → r ≡ Refused q → readClaim text ≡ refused (refusalOf q)
+pub none-as : (text a b : List ℕ) {r : Claim} {q : Refusal} → ReadAs text r a b → r ≡ Refused q → readClaim text ≡ refused q
 none-as text a b h e = subst (λ (r : Claim). ReadAs text r a b) e h
 
 -- What was asked ---------------------------------------------------------------------------------------
@@ -171,26 +170,26 @@ pub asks-long : (input : List ℕ) {l : List ℕ} → l ≡ blank → 4096 < len
 asks-long input {l} e h =
     let m = firstLine input in
     record {
-      equal = ap (λ (t : Bool). asked (pick t (readClaim m) (refused not-accepted))) (lt-leb (length m) 4096 h) ∙ ap (λ (l : List ℕ). record { answer = Door.refused not-accepted; ledger = l }) (sym e);
+      equal = ap (λ (t : Bool). asked (pick t (readClaim m) (refused NotAccepted))) (lt-leb (length m) 4096 h) ∙ ap (λ (l : List ℕ). record { answer = Door.refused NotAccepted; ledger = l }) (sym e);
       led = subst Led (sym e) blank-led;
       small = no-step;
     }
 
 module _ (input : List ℕ) (h : length (firstLine input) ≤ 4096) {text : List ℕ} (t : text ≡ firstLine input) where
-  claimed : (o : Outcome Claimed) → readClaim text ≡ o → asked (lineClaim (firstLine input)) ≡ asked o
+  claimed : (o : Result Claimed) → readClaim text ≡ o → asked (lineClaim (firstLine input)) ≡ asked o
   claimed o e =
       let m = firstLine input in
-      ap (λ (t : Bool). asked (pick t (readClaim m) (refused not-accepted))) (le-leb (length m) 4096 h) ∙ ap (λ (m : List ℕ). asked (readClaim m)) (sym t) ∙ ap asked e
+      ap (λ (t : Bool). asked (pick t (readClaim m) (refused NotAccepted))) (le-leb (length m) 4096 h) ∙ ap (λ (m : List ℕ). asked (readClaim m)) (sym t) ∙ ap asked e
 
-  pub asks-none : {l : List ℕ} {q : Refusal} → l ≡ blank → readClaim text ≡ refused (refusalOf q) → Asks input (RefusedAnswer q) l
+  pub asks-none : {l : List ℕ} {q : Refusal} → l ≡ blank → readClaim text ≡ refused q → Asks input (RefusedAnswer q) l
   asks-none {q = q} e i =
       record {
-        equal = claimed (refused (refusalOf q)) i ∙ ap (λ (l : List ℕ). record { answer = Door.refused (refusalOf q); ledger = l }) (sym e);
+        equal = claimed (refused q) i ∙ ap (λ (l : List ℕ). record { answer = Door.refused q; ledger = l }) (sym e);
         led = subst Led (sym e) blank-led;
         small = no-step;
       }
 
-  module _ {d x y : ℕ} {a b l l′ : List ℕ} (r : Answer) (e : l ≡ blank) (g : Got text d x y a b) (p : Replies (entails d (take x a) (take y b)) l (said r) l′ []) where
+  module _ {d x y : ℕ} {a b l l′ : List ℕ} (r : Called) (e : l ≡ blank) (g : Got text d x y a b) (p : Replies (entails d (take x a) (take y b)) l (said r) l′ []) where
     same-call : entails d (take x a) (take y b) ≡ entails (g .claim .dimensions) (encode Faces (g .claim .left)) (encode Faces (g .claim .right))
     same-call = ap₂ (λ (u v : List ℕ). entails d u v) (g .left) (g .right) ∙ ap (λ (d : ℕ). entails d (encode Faces (g .claim .left)) (encode Faces (g .claim .right))) (g .dimensions)
 

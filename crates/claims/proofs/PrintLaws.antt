@@ -11,11 +11,12 @@ use Rattle.calculus.specs.Judgement.{Step}
 use Rattle.calculus.specs.Rules.{stepAt}
 use Rattle.calculus.specs.Record.{maxLedger, size}
 use Rattle.calculus.specs.Emit.{not-below, not-implied}
-use Rattle.calculus.specs.Refusal.{Refusal, number, ill-formed-ledger, not-a-formula, too-many-nodes, large-dimension, large-result, short-output, full-ledger, failing, does-not-follow, not-accepted}
-use Rattle.refusals.specs.Refusals.{refusalOf}
+use Rattle.refusals.specs.declared.Refusal.{Refusal}
+use Rattle.refusals.specs.declared.Refusal.the-variants.{IllFormedLedger, NotAFormula, TooManyNodes, LargeDimension, LargeResult, ShortOutput, FullLedger, NotBelow, NotImplied, DoesNotFollow, NotAccepted}
+use Rattle.refusals.specs.Refusals.{number}
 use Rattle.replies.specs.Replying.{said}
-use Rattle.replies.specs.declared.Answer.{Answer}
-use Rattle.replies.specs.declared.Answer.the-variants.{Step as StepAnswer, Refused as RefusedAnswer}
+use Rattle.replies.specs.declared.Called.{Called}
+use Rattle.replies.specs.declared.Called.the-variants.{Step as StepAnswer, Refused as RefusedAnswer}
 use Rattle.calculus.specs.Table.{textBytes}
 use Rattle.calculus.specs.Door
 use Rattle.ledger.specs.Ledger.{stepsOf, placeOf, Led, Points}
@@ -149,33 +150,33 @@ module _ {l out₀ out : List ℕ} {from step at to : ℕ} (h : Listing l from o
 
 -- The last line ----------------------------------------------------------------------------------------
 
-pub verdict-room : {a b : Answer} {to : ℕ} → a ≡ b → Room to (verdictText (said a)) → Room to (verdictText (said b))
-verdict-room e h = room-as (ap (λ (a : Answer). verdictText (said a)) e) h
+pub verdict-room : {a b : Called} {to : ℕ} → a ≡ b → Room to (verdictText (said a)) → Room to (verdictText (said b))
+verdict-room e h = room-as (ap (λ (a : Called). verdictText (said a)) e) h
 
-pub verdict-wrote : {a b : Answer} {to r : ℕ} {out out′ : List ℕ} → a ≡ b → Wrote (verdictText (said b)) out to r out′ → Wrote (verdictText (said a)) out to r out′
-verdict-wrote e w = wrote-as (ap (λ (a : Answer). verdictText (said a)) (sym e)) w
+pub verdict-wrote : {a b : Called} {to r : ℕ} {out out′ : List ℕ} → a ≡ b → Wrote (verdictText (said b)) out to r out′ → Wrote (verdictText (said a)) out to r out′
+verdict-wrote e w = wrote-as (ap (λ (a : Called). verdictText (said a)) (sym e)) w
 
 refusal-low : (e : Refusal) → number e ≤ 11
-refusal-low ill-formed-ledger = omega arith
-refusal-low not-a-formula = omega arith
-refusal-low too-many-nodes = omega arith
-refusal-low large-dimension = omega arith
-refusal-low large-result = omega arith
-refusal-low short-output = omega arith
-refusal-low full-ledger = omega arith
-refusal-low (failing not-below) = omega arith
-refusal-low (failing not-implied) = omega arith
-refusal-low does-not-follow = omega arith
-refusal-low not-accepted = omega arith
+refusal-low IllFormedLedger = omega arith
+refusal-low NotAFormula = omega arith
+refusal-low TooManyNodes = omega arith
+refusal-low LargeDimension = omega arith
+refusal-low LargeResult = omega arith
+refusal-low ShortOutput = omega arith
+refusal-low FullLedger = omega arith
+refusal-low NotBelow = omega arith
+refusal-low NotImplied = omega arith
+refusal-low DoesNotFollow = omega arith
+refusal-low NotAccepted = omega arith
 
-pub verdict-short : (a : Answer) → ((n : ℕ) → a ≡ StepAnswer n → n < maxLedger) → length (verdictText (said a)) ≤ 1048600
+pub verdict-short : (a : Called) → ((n : ℕ) → a ≡ StepAnswer n → n < maxLedger) → length (verdictText (said a)) ≤ 1048600
 unfolding textBytes
 verdict-short (StepAnswer n) h = omega (arith, h n refl, decimal-short n, length-append (decimalText n) (10 ∷ []))
-verdict-short (RefusedAnswer e) h = let n = number (refusalOf e) in omega (arith, refusal-low (refusalOf e), decimal-short n, length-append (decimalText n) (10 ∷ []))
+verdict-short (RefusedAnswer e) h = let n = number e in omega (arith, refusal-low e, decimal-short n, length-append (decimalText n) (10 ∷ []))
 
 -- What was asked, printed ------------------------------------------------------------------------------
 
-module _ {input l : List ℕ} {a : Answer} (h : Asks input a l) where
+module _ {input l : List ℕ} {a : Called} (h : Asks input a l) where
   pub listed-room : Room 0 (listed l a)
   listed-room =
       let n = length (stepsOf l) in
@@ -222,5 +223,5 @@ pub among-inside : {l : List ℕ} {step at end : ℕ} → Among l step at → en
 among-inside a e b = walks-points (walks-among a) (omega (arith, e)) .inside
 
 -- The last line fits into the room for a page.
-pub verdict-fits : {input l out out′ : List ℕ} {a : Answer} {r : ℕ} → Asks input a l → Wrote (verdictText (said a)) out 0 r out′ → 1048600 ≤ length out → r ≤ length out′
+pub verdict-fits : {input l out out′ : List ℕ} {a : Called} {r : ℕ} → Asks input a l → Wrote (verdictText (said a)) out 0 r out′ → 1048600 ≤ length out → r ≤ length out′
 verdict-fits {a = a} h w b = omega (arith, verdict-short a (h .small), w .end, wrote-length w)

@@ -8,12 +8,13 @@ use Rattle.formula.specs.Bytes.{encode}
 use Rattle.formula.specs.Answers.{pick}
 use Rattle.calculus.specs.Judgement.{Step}
 use Rattle.calculus.specs.Table.{textBytes}
-use Rattle.calculus.specs.Refusal.{number, not-accepted}
+use Rattle.refusals.specs.declared.Refusal.the-variants.{NotAccepted}
+use Rattle.refusals.specs.Refusals.{number, Result, refused, done}
 use Rattle.calculus.specs.Door
 use Rattle.calculus.specs.Door.{answered, entails, reply}
 use Rattle.calculus.specs.Demand.{empty}
 use Rattle.ledger.specs.Ledger.{stepsOf}
-use Rattle.text.specs.Reading.{Outcome, refused, done, Claimed, readClaim}
+use Rattle.text.specs.Reading.{Claimed, readClaim}
 use Rattle.text.specs.Wholes.{Delivers}
 use Rattle.text.specs.declared.Length.{Length}
 use Rattle.writing.specs.Texts.{decimalText}
@@ -25,8 +26,8 @@ firstLine [] = []
 firstLine (b ∷ l) = pick (eqb b 10) [] (b ∷ firstLine l)
 
 -- The claim that a line is; 11 where it has over 4,096 bytes, before any token is read.
-abbrev pub lineClaim : List ℕ → Outcome Claimed
-lineClaim l = pick (leb (length l) 4096) (readClaim l) (refused not-accepted)
+abbrev pub lineClaim : List ℕ → Result Claimed
+lineClaim l = pick (leb (length l) 4096) (readClaim l) (refused NotAccepted)
 
 -- The ledger that the program starts with.
 abbrev pub blank : List ℕ
@@ -38,7 +39,7 @@ pub record Asked : Type 0 where
   pub ledger : List ℕ
 
 -- The claim is asked by entails; where the line is none, the ledger stays blank.
-abbrev pub asked : Outcome Claimed → Asked
+abbrev pub asked : Result Claimed → Asked
 asked (refused e) = record { answer = Door.refused e; ledger = blank }
 asked (done c) =
     let r = reply (entails (c .dimensions) (encode Faces (c .left)) (encode Faces (c .right))) blank in

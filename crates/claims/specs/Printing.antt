@@ -6,20 +6,20 @@ use lib.ListN.{length, take, drop}
 use Rattle.calculus.specs.Record.{maxLedger}
 use Rattle.ledger.specs.Ledger.{stepsOf, placeOf, Led}
 use Rattle.replies.specs.Replying.{said}
-use Rattle.replies.specs.declared.Answer.{Answer}
-use Rattle.replies.specs.declared.Answer.the-variants.{Step}
+use Rattle.replies.specs.declared.Called.{Called}
+use Rattle.replies.specs.declared.Called.the-variants.{Step}
 use Rattle.writing.specs.Writing.{Wrote}
 use Rattle.claims.specs.Facesteps.{firstLine, lineClaim, asked, linesFrom, verdictText}
 use Rattle.claims.specs.declared.Page.{Page}
 
 -- What was asked is answered, and the ledger is left, as for the first line of the input.
-pub record Asks (input : List ℕ) (r : Answer) (l′ : List ℕ) : Type 0 where
+pub record Asks (input : List ℕ) (r : Called) (l′ : List ℕ) : Type 0 where
   pub equal : asked (lineClaim (firstLine input)) ≡ record { answer = said r; ledger = l′ }
   pub led : Led l′
   pub small : (n : ℕ) → r ≡ Step n → n < maxLedger
 
 -- The lines of a ledger, and behind them the answer.
-abbrev pub listed : List ℕ → Answer → List ℕ
+abbrev pub listed : List ℕ → Called → List ℕ
 listed l a = linesFrom 0 (stepsOf l) ++ verdictText (said a)
 
 -- A place among the records: before a step, or behind the last.

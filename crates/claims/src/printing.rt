@@ -3,7 +3,7 @@ use crate::Page;
 use crate::asking;
 use ledger::Cursor;
 use refusals::Refusal;
-use replies::Answer;
+use replies::Called;
 use text::Length;
 ghost use mathlib.Core.List.{[], _∷_, _++_};
 ghost use Prim.Native.Nat.{_≤_};
@@ -45,18 +45,18 @@ fn ending(words: &[u8], n: usize, out: &mut [u8], to: usize) -> usize
 }
 
 // Writes the last line.
-pub fn verdict(a: Answer, out: &mut [u8], to: usize) -> usize
+pub fn verdict(a: Called, out: &mut [u8], to: usize) -> usize
     requires { ⌜ Room to (verdictText (said a)) ⌝ }
     ensures { λ r. ⌜ Wrote (verdictText (said a)) (now (out .entry)) to r (now (out .exit)) ⌝ }
 {
     match a {
-        Answer::Step(n) => ending(b"yes ", n, out, to),
-        Answer::Refused(e) => ending(b"refused ", refusals::number(e), out, to),
+        Called::Step(n) => ending(b"yes ", n, out, to),
+        Called::Refused(e) => ending(b"refused ", refusals::number(e), out, to),
     }
 }
 
 // Writes the lines of all steps, and the last line.
-fn whole(l: &[u8], a: Answer, out: &mut [u8]) -> usize
+fn whole(l: &[u8], a: Called, out: &mut [u8]) -> usize
     requires { ⌜ Led (now l) × Room 0 (listed (now l) a) ⌝ }
     ensures { λ r. ⌜ Wrote (listed (now (l .entry)) a) (now (out .entry)) 0 r (now (out .exit)) ⌝ }
 {

@@ -8,7 +8,7 @@ use lib.Dec.{leb}
 use lib.ListN.{length, length-map}
 use Rattle.formula.specs.Formula.{End, Face, ff, ft, at, fand, for, beside}
 use Rattle.formula.specs.Answers.{pick}
-use Rattle.clauses.specs.Normal.{Handling, Leaves, enter, entered, any, minimal, prune, pairsWith, pairs, maxClauses, limited, both, clauses}
+use Rattle.clauses.specs.Normal.{Handling, LeafCases, enter, entered, any, minimal, prune, pairsWith, pairs, maxClauses, limited, both, clauses}
 
 pub record Carries {A B : Type 0} (H : Handling A) (K : Handling B) (h : A → B) : Type 0 where
   pub order : (a b : A) → K .order (h a) (h b) ≡ H .order a b
@@ -85,7 +85,7 @@ module _ {A B : Type 0} {H : Handling A} {K : Handling B} {h : A → B} (C : Car
   both-carried join join′ j (some x) none = refl
   both-carried join join′ j (some x) (some y) = rw (j x y) (limited-carried (join x y))
 
-  pub clauses-carried : (L : Leaves A) (M : Leaves B) → h (L .always) ≡ M .always → (f : Face) → AllLiterals (λ e n. h (L .single e n) ≡ M .single e n) f →
+  pub clauses-carried : (L : LeafCases A) (M : LeafCases B) → h (L .always) ≡ M .always → (f : Face) → AllLiterals (λ e n. h (L .single e n) ≡ M .single e n) f →
       clauses K M f ≡ Option·map (map h) (clauses H L f)
   unfolding clauses
   clauses-carried L M a ff s = refl

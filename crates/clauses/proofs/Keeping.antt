@@ -9,9 +9,9 @@ use lib.ListN.{length}
 use borrow.Author.Tests.{leb-true, le-leb}
 use Rattle.formula.specs.Formula.{End, Face, ff, ft, at, fand, for}
 use Rattle.formula.specs.Answers.{pick}
-use Rattle.clauses.specs.Normal.{Handling, Leaves, prune, pairs, maxClauses, limited, both, clauses}
+use Rattle.clauses.specs.Normal.{Handling, LeafCases, prune, pairs, maxClauses, limited, both, clauses}
 
-pub record Kept {A : Type 0} (H : Handling A) (L : Leaves A) (P : Face → List A → Type 0) : Type 0 where
+pub record Kept {A : Type 0} (H : Handling A) (L : LeafCases A) (P : Face → List A → Type 0) : Type 0 where
   pub never : P ff []
   pub always : P ft (L .always ∷ [])
   pub single : (e : End) (n : ℕ) → P (at e n) (L .single e n ∷ [])
@@ -39,7 +39,7 @@ module _ {A : Type 0} (H : Handling A) where
   both-kept P Q R join k (some x) none p q l e = absurd (Option·none-ne-some l e)
   both-kept P Q R join k (some x) (some y) p q l e = limited-kept R (join x y) (k x y (p x refl) (q y refl)) l e
 
-  module _ (L : Leaves A) where
+  module _ (L : LeafCases A) where
     pub clauses-kept : (P : Face → List A → Type 0) → Kept H L P → (f : Face) (l : List A) → clauses H L f ≡ some l → P f l
     unfolding clauses
     clauses-kept P K ff l e = subst (P ff) (Option·some-injective _ _ e) (K .never)

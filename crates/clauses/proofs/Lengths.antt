@@ -12,7 +12,7 @@ use lib.Pow.{pow-add, pow-mono}
 use Rattle.formula.specs.Formula.{Face, ff, ft, at, fand, for, beside}
 use Rattle.formula.specs.Bytes.{nodesFace}
 use Rattle.formula.specs.Answers.{pick}
-use Rattle.clauses.specs.Normal.{Handling, Leaves, enter, entered, any, minimal, prune, pairsWith, pairs, maxClauses, clauses}
+use Rattle.clauses.specs.Normal.{Handling, LeafCases, enter, entered, any, minimal, prune, pairsWith, pairs, maxClauses, clauses}
 use Rattle.clauses.proofs.Keeping.{Kept, clauses-kept, clauses-fand, clauses-for}
 
 -- The leaves of a face. -----------------------------------------------------------
@@ -106,7 +106,7 @@ half-product m n x y p q = rw pow-add (omega (arith, mul-le-mul p q))
 half-sum : (m n x y : ℕ) → 1 ≤ m → 1 ≤ n → 2 * x ≤ 2 ^ m → 2 * y ≤ 2 ^ n → 2 * (x + y) ≤ 2 ^ (m + n)
 half-sum m n x y u v p q = rw pow-add (omega (arith, mul-le-mul-left (2 ^ m) (pow-mono v), mul-le-mul-right (2 ^ n) (pow-mono u)))
 
-module _ {A : Type 0} (H : Handling A) (L : Leaves A) where
+module _ {A : Type 0} (H : Handling A) (L : LeafCases A) where
   short : Kept H L Short
   unfolding leaves
   short = record {

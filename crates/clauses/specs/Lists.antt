@@ -11,19 +11,19 @@ use Rattle.formula.specs.Answers.{pick}
 use Rattle.clauses.specs.Normal.{enter, Handling, limited, pairs}
 
 -- n elements of a slice from a place on are the list.
-pub record Stands {A : Type 0} (xs : List A) (at : ℕ) (l : List A) (n : ℕ) : Type 0 where
+pub record Placed {A : Type 0} (xs : List A) (at : ℕ) (l : List A) (n : ℕ) : Type 0 where
   pub many : n ≡ length xs
   pub room : at + n ≤ length l
   pub here : take n (drop at l) ≡ xs
 
 -- The list stands in front of a slice of as many elements as before.
 pub record Fills {A : Type 0} (xs : List A) (l : List A) (n : ℕ) (l′ : List A) : Type 0 where
-  pub stands : Stands xs 0 l′ n
+  pub stands : Placed xs 0 l′ n
   pub same : length l′ ≡ length l
 
 -- The list stands in a slice from a place on, and what was before that place is there still.
 pub record Replaces {A : Type 0} (xs : List A) (at : ℕ) (l : List A) (n : ℕ) (l′ : List A) : Type 0 where
-  pub stands : Stands xs at l′ n
+  pub stands : Placed xs at l′ n
   pub before : take at l′ ≡ take at l
   pub same : length l′ ≡ length l
 
@@ -67,7 +67,7 @@ manyOf (some xs) = length xs
 -- The list, where there is one, stands in a slice from a place on, and what was before that place is there still.
 pub record Lists {A : Type 0} (o : Option (List A)) (at : ℕ) (l : List A) (n : ℕ) (l′ : List A) : Type 0 where
   pub many : n ≡ manyOf o
-  pub here : (xs : List A) → o ≡ some xs → Stands xs at l′ n
+  pub here : (xs : List A) → o ≡ some xs → Placed xs at l′ n
   pub before : take at l′ ≡ take at l
   pub same : length l′ ≡ length l
 

@@ -14,7 +14,7 @@ use Rattle.calculus.specs.Search.{nodesContext}
 use Rattle.calculus.specs.Record.{facesBytes, boundContext}
 use Rattle.calculus.proofs.Searching.{left-out, nodes-left-out}
 use Rattle.records.proofs.NumberLaws.{sets-append}
-use Rattle.contexts.specs.Contexts.{Are, contextOf, leave, Leaves, cut, At}
+use Rattle.contexts.specs.Contexts.{Are, contextOf, leave, LeftOut, cut, At}
 use Rattle.contexts.proofs.ContextLaws.{context-of, context-short, tail, First, first-of}
 
 pub faces-append : (b a : List Face) → facesBytes (b ++ a) ≡ facesBytes b ++ facesBytes a
@@ -73,7 +73,7 @@ module _ {G : List Face} {i at n : ℕ} {x g : List ℕ} (w : At G i x at n g) w
   pub cut-short : length (cut at (at + length x) g) ≤ 1022
   cut-short = omega (arith, context-short (w .whole), at-end, length-append (take at g) (drop (at + length x) g), length-take-le at g (omega (arith, at-end)), length-drop (at + length x) g)
 
-  pub at-leaves : {d : List ℕ} → d ≡ cut at (at + length x) g → Leaves G i x n g d
+  pub at-leaves : {d : List ℕ} → d ≡ cut at (at + length x) g → LeftOut G i x n g d
   at-leaves e = record { whole = w .whole; inside = w .inside; out = w .out; others = e ∙ at-cut }
 
 bound-of : (b : List Face) (f : Face) (a : List Face) → boundFace f ≤ boundContext (b ++ f ∷ a)

@@ -23,7 +23,7 @@ use Rattle.steps.specs.Running.{Book, doneBy, stepBy, Runs, Emits}
 use Rattle.steps.specs.Trees.{Is}
 use Rattle.steps.proofs.RunLaws.{emits-by}
 use Rattle.steps.proofs.TreeLaws.{is-short}
-use Rattle.contexts.specs.Contexts.{Are, contextOf, leave, Leaves}
+use Rattle.contexts.specs.Contexts.{Are, contextOf, leave, LeftOut}
 use Rattle.contexts.proofs.AfterLaws.{after, after-stop, after-up}
 use Rattle.contexts.proofs.ContextLaws.{context-of, context-short, field, tail, tail-append, First, first-of}
 
@@ -41,7 +41,7 @@ less (suc i) (f ∷ G) h =
     let v = less i G (omega arith) in
     record { count = ap suc (v .count); nodes = omega (arith, v .nodes); bound = omega (arith, v .bound) }
 
-module _ {G : List Face} {i n : ℕ} {x g d : List ℕ} (w : Leaves G i x n g d) where
+module _ {G : List Face} {i n : ℕ} {x g d : List ℕ} (w : LeftOut G i x n g d) where
   inside : i < length G
   inside = omega (arith, w .inside, w .whole .count)
 
@@ -97,7 +97,7 @@ leave-up (suc i) f H z =
     let e : i ≡ suc i - 1 = omega arith in
     (ap (λ (k : ℕ). getD H k ff) e, ap (λ (k : ℕ). f ∷ leave k H) e)
 
-module _ {G : List Face} {i n : ℕ} {x g d : List ℕ} (w : Leaves G i x n g d) where
+module _ {G : List Face} {i n : ℕ} {x g d : List ℕ} (w : LeftOut G i x n g d) where
   pub take-here : {l l′ : Book} {c e : List ℕ} {r : Ran} → i ≡ 0 → c ≡ littleEndian 2 n → e ≡ littleEndian 2 (n - 1) → Emits l 19 (0 ∷ 0 ∷ 0 ∷ []) (c ++ (g ++ (x ++ (e ++ d)))) r l′ → Runs l (leaving i G) r l′
   take-here {l} {l′} {r} z p q t =
       subst (λ (y : Program). Runs l y r l′) (sym (leaving-first i G (inside w) z)) (emits-by t (first-rule i G (inside w) z) [] refl tt (take-limited w) refl (take-bytes w p q))
@@ -116,7 +116,7 @@ module _ {G : List Face} {i n : ℕ} {x g d : List ℕ} (w : Leaves G i x n g d)
     pub rest-cut : (length h ≤ length g) × (length h ≤ length d)
     rest-cut = (first .inside, omega (arith, ap length front, length-append h (facesBytes (leave (i - 1) (first .rest)))))
 
-    rest-leaves : Leaves (first .rest) (i - 1) x (n - 1) (tail (length h) g) (tail (length h) d)
+    rest-leaves : LeftOut (first .rest) (i - 1) x (n - 1) (tail (length h) g) (tail (length h) d)
     rest-leaves = record {
       whole = first .others;
       inside = omega (arith, w .inside);
@@ -124,8 +124,8 @@ module _ {G : List Face} {i n : ℕ} {x g d : List ℕ} (w : Leaves G i x n g d)
       others = tail-append h (facesBytes (leave (i - 1) (first .rest))) d front;
     }
 
-    pub rest-without : Leaves (contextOf (n - 1) (tail (length h) g)) (i - 1) x (n - 1) (tail (length h) g) (tail (length h) d)
-    rest-without = subst (λ (K : List Face). Leaves K (i - 1) x (n - 1) (tail (length h) g) (tail (length h) d)) (sym (context-of (first .others))) rest-leaves
+    pub rest-without : LeftOut (contextOf (n - 1) (tail (length h) g)) (i - 1) x (n - 1) (tail (length h) g) (tail (length h) d)
+    rest-without = subst (λ (K : List Face). LeftOut K (i - 1) x (n - 1) (tail (length h) g) (tail (length h) d)) (sym (context-of (first .others))) rest-leaves
 
     module _ {l l₁ : Book} {r : Ran} (s : Runs l (leaving (i - 1) (contextOf (n - 1) (tail (length h) g))) r l₁) where
       program : leaving i G ≡ (leaving (i - 1) (contextOf (n - 1) (tail (length h) g)) >>= after 20 (take G (getD G i ff) (leave i G)))

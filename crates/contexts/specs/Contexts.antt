@@ -36,14 +36,14 @@ abbrev pub leave : ℕ → List Face → List Face
 leave i G = take i G ++ drop (suc i) G
 
 -- The bytes x are the face number i of the context G, and d are those of the others.
-pub record Leaves (G : List Face) (i : ℕ) (x : List ℕ) (n : ℕ) (g d : List ℕ) : Type 0 where
+pub record LeftOut (G : List Face) (i : ℕ) (x : List ℕ) (n : ℕ) (g d : List ℕ) : Type 0 where
   pub whole : Are G n g
   pub inside : i < n
   pub out : Is Faces (getD G i ff) x
   pub others : d ≡ facesBytes (leave i G)
 
 abbrev pub Without : ℕ → List ℕ → ℕ → List ℕ → List ℕ → Type 0
-Without i x n g d = Leaves (contextOf n g) i x n g d
+Without i x n g d = LeftOut (contextOf n g) i x n g d
 
 -- The bytes without those from `at` up to `end`.
 abbrev pub cut : ℕ → ℕ → List ℕ → List ℕ

@@ -18,7 +18,8 @@ use Rattle.calculus.specs.Rules.{AllBelow, Valid, passes, fails}
 use Rattle.calculus.specs.Record.{maxLedger, Holds}
 use Rattle.calculus.specs.Parse.{readLedger}
 use Rattle.calculus.specs.Emit.{not-below, not-implied}
-use Rattle.calculus.specs.Refusal.{failing, number}
+use Rattle.refusals.specs.declared.Refusal.the-variants.{NotBelow, NotImplied}
+use Rattle.refusals.specs.Refusals.{number}
 use Rattle.calculus.specs.Door
 use Rattle.calculus.specs.Door.{entails, reply}
 use Rattle.calculus.specs.Demand.{empty, Lowest}
@@ -101,10 +102,10 @@ module _ {w : Answering} (tells : Tells w) where
     reads-goal = q;
     steps = L;
     reads-steps = read-ledger h;
-    yes-iff = (λ y. absurd (tells .yes-no (failing not-below) (y .0) (y .1)), λ t. absurd (s (t .left) (t .right)));
-    lowest = λ k y. absurd (tells .yes-no (failing not-below) k y);
-    8-iff = (λ y. s, λ y. tells .no (failing not-below));
-    else-9 = λ y z. absurd (z (tells .no (failing not-below)));
+    yes-iff = (λ y. absurd (tells .yes-no NotBelow (y .0) (y .1)), λ t. absurd (s (t .left) (t .right)));
+    lowest = λ k y. absurd (tells .yes-no NotBelow k y);
+    8-iff = (λ y. s, λ y. tells .no NotBelow);
+    else-9 = λ y z. absurd (z (tells .no NotBelow));
   }
   right-so {α} {β} {L} p q h (9-so i j s) = record {
     left = α;
@@ -113,10 +114,10 @@ module _ {w : Answering} (tells : Tells w) where
     reads-goal = q;
     steps = L;
     reads-steps = read-ledger h;
-    yes-iff = (λ y. absurd (tells .yes-no (failing not-implied) (y .0) (y .1)), λ t. absurd (s (t .implied)));
-    lowest = λ k y. absurd (tells .yes-no (failing not-implied) k y);
-    8-iff = (λ y. absurd (let z = tells .no-one (failing not-implied) 8 (omega arith) y in omega (arith, z)), λ y. absurd (y i j));
-    else-9 = λ y z. tells .no (failing not-implied);
+    yes-iff = (λ y. absurd (tells .yes-no NotImplied (y .0) (y .1)), λ t. absurd (s (t .implied)));
+    lowest = λ k y. absurd (tells .yes-no NotImplied k y);
+    8-iff = (λ y. absurd (let z = tells .no-one NotImplied 8 (omega arith) y in omega (arith, z)), λ y. absurd (y i j));
+    else-9 = λ y z. tells .no NotImplied;
   }
 
   -- None of the refusals 1 to 7 as answered, so none of the calculus'.

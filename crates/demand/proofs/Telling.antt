@@ -5,7 +5,8 @@ use Prim.Native.Nat.{ℕ, _≤_, _<_}
 use native.Mathlib.Omega.{arith}
 use Rattle.calculus.specs.Rules.{pass, fail}
 use Rattle.calculus.specs.Record.{maxLedger}
-use Rattle.calculus.specs.Refusal.{Refusal, number}
+use Rattle.refusals.specs.declared.Refusal.{Refusal}
+use Rattle.refusals.specs.Refusals.{number}
 use Rattle.calculus.specs.Door.{answered, refused}
 use Rattle.calculus.specs.Desk.{unreadable, judged}
 use Rattle.calculus.proofs.Doors.{answer-no-refusal}

@@ -2,7 +2,8 @@
 use mathlib.Core.Path.{_≡_}
 use mathlib.Core.List.{[]}
 use Prim.Native.Nat.{ℕ, _<_}
-use Rattle.calculus.specs.Refusal.{Refusal, number}
+use Rattle.refusals.specs.declared.Refusal.{Refusal}
+use Rattle.refusals.specs.Refusals.{number}
 use Rattle.calculus.specs.Door
 use Rattle.calculus.specs.Door.{answered}
 use Rattle.calculus.specs.Desk.{DeskAnswer}

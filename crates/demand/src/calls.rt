@@ -1,7 +1,7 @@
 // The calls of `engine`, and the desk that they are used with.
 use desk::Verdict;
 use formula::Sort;
-use replies::Answer;
+use replies::Called;
 use replies::Made;
 ghost use mathlib.Core.List.{[], _∷_};
 ghost use Rattle.calculus.specs.Door.{face as faceCall, interval as intervalCall, boundary as boundaryCall, endpoint as endpointCall, forall as forallCall, shift as shiftCall, substitute as substituteCall, entails as entailsCall};
@@ -17,13 +17,13 @@ pub fn step_desk(ledger: &[u8]) -> Verdict
     desk::step_desk(ledger)
 }
 
-pub fn face(ledger: &mut [u8], d: usize, f: &[u8]) -> Answer
+pub fn face(ledger: &mut [u8], d: usize, f: &[u8]) -> Called
     ensures { λ x. ⌜ Says enums (now (ledger .entry)) (record { call = faceCall d (now (f .entry)); answer = said x; ledger = now (ledger .exit); outputs = [] }) ⌝ }
 {
     engine::face(ledger, d, f)
 }
 
-pub fn interval(ledger: &mut [u8], d: usize, r: &[u8]) -> Answer
+pub fn interval(ledger: &mut [u8], d: usize, r: &[u8]) -> Called
     ensures { λ x. ⌜ Says enums (now (ledger .entry)) (record { call = intervalCall d (now (r .entry)); answer = said x; ledger = now (ledger .exit); outputs = [] }) ⌝ }
 {
     engine::interval(ledger, d, r)
@@ -35,7 +35,7 @@ pub fn boundary(ledger: &mut [u8], r: &[u8], out0: &mut [u8], out1: &mut [u8]) -
     engine::boundary(ledger, r, out0, out1)
 }
 
-pub fn endpoint(ledger: &mut [u8], d: usize, phi: &[u8], r: &[u8], one: bool) -> Answer
+pub fn endpoint(ledger: &mut [u8], d: usize, phi: &[u8], r: &[u8], one: bool) -> Called
     ensures { λ x. ⌜ Says enums (now (ledger .entry)) (record { call = endpointCall d (now (phi .entry)) (now (r .entry)) one; answer = said x; ledger = now (ledger .exit); outputs = [] }) ⌝ }
 {
     engine::endpoint(ledger, d, phi, r, one)
@@ -66,7 +66,7 @@ pub fn substitute(
     engine::substitute(ledger, sort, t, k, r, out)
 }
 
-pub fn entails(ledger: &mut [u8], d: usize, a: &[u8], b: &[u8]) -> Answer
+pub fn entails(ledger: &mut [u8], d: usize, a: &[u8], b: &[u8]) -> Called
     ensures { λ x. ⌜ Says enums (now (ledger .entry)) (record { call = entailsCall d (now (a .entry)) (now (b .entry)); answer = said x; ledger = now (ledger .exit); outputs = [] }) ⌝ }
 {
     engine::entails(ledger, d, a, b)

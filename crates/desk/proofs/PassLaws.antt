@@ -21,7 +21,7 @@ use Rattle.ledger.proofs.PointLaws.{Walks, walks-start, walks-next}
 use Rattle.ledger.proofs.NotingLaws.{noted-none, few-steps, low-place}
 use Rattle.rules.specs.Standing.{Decides}
 use Rattle.desk.specs.Verdicts.{answerAs, inDocument, said, Answers}
-use Rattle.desk.specs.declared.Verdict.{Verdict as Answer}
+use Rattle.desk.specs.declared.Verdict.{Verdict as DeskVerdict}
 use Rattle.desk.specs.declared.Verdict.the-variants.{Ill, Fails, Passes}
 
 -- Before a step: where the pass stands, the places that are noted, and that all steps before it follow.
@@ -84,5 +84,5 @@ same-said unreadable = refl
 same-said (judged (pass n)) = refl
 same-said (judged (fail n)) = refl
 
-pub answers : {l : List ℕ} {r : Answer} → DeskGives answerAs l r → Answers l r
+pub answers : {l : List ℕ} {r : DeskVerdict} → DeskGives answerAs l r → Answers l r
 answers h = record { gives = h; says = record { answer = h .answer; says = h .says; given = ap inDocument (h .given) ∙ same-said (h .answer) } }

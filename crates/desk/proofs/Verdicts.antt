@@ -13,11 +13,11 @@ use Rattle.calculus.specs.Desk.{DeskAnswer, DeskSays, no-ledger, on-steps, Desk
 use Rattle.calculus.proofs.Sound.{valid-true}
 use Rattle.calculus.proofs.Desk.{Up}
 use Rattle.desk.specs.Verdicts.{answerAs, inDocument}
-use Rattle.desk.specs.declared.Verdict.{Verdict as Answer}
+use Rattle.desk.specs.declared.Verdict.{Verdict as DeskVerdict}
 use Rattle.desk.specs.declared.Verdict.the-variants.{Ill, Fails, Passes}
 
 -- The three cases.
-data Seen (l : List ℕ) : Answer → Type 0 where
+data Seen (l : List ℕ) : DeskVerdict → Type 0 where
   ill : readLedger l ≡ none → Seen l Ill
   failed : {n : ℕ} (L : List Step) → readLedger l ≡ some L → n < length L → Up L n → (Follows L n (stepAt L n) → ⊥) → Seen l (Fails n)
   passed : {n : ℕ} (L : List Step) → readLedger l ≡ some L → length L ≡ n → Valid L → Seen l (Passes n)
@@ -42,7 +42,7 @@ pub record LowestFailing (l : List ℕ) (n : ℕ) : Type 0 where
   pub lower : (j : ℕ) → j < n → Follows steps j (stepAt steps j)
   pub here : Follows steps n (stepAt steps n) → ⊥
 
-module _ (l : List ℕ) {r : Answer} (g : DeskGives answerAs l r) where
+module _ (l : List ℕ) {r : DeskVerdict} (g : DeskGives answerAs l r) where
   which : Seen l r
   which = subst (Seen l) (sym (g .given)) (seen (g .says))
 
@@ -50,7 +50,7 @@ module _ (l : List ℕ) {r : Answer} (g : DeskGives answerAs l r) where
   pub passes-true : {n : ℕ} → r ≡ Passes n → AllTrue l n
   passes-true {n} h = go which h
     where
-      go : {q : Answer} → Seen l q → q ≡ Passes n → AllTrue l n
+      go : {q : DeskVerdict} → Seen l q → q ≡ Passes n → AllTrue l n
       go (ill z) h = absurd (let z : _≡_ {A = ℕ} 0 1 = cc in omega arith)
       go (failed L z b up f) h = absurd (let z : _≡_ {A = ℕ} 0 1 = cc in omega arith)
       go (passed {n = m} L z c v) h = let d : m ≡ n = cc in record { steps = L; reads = z; count = c ∙ d; truth = λ i b. valid-true v i (omega arith) }
@@ -59,7 +59,7 @@ module _ (l : List ℕ) {r : Answer} (g : DeskGives answerAs l r) where
   pub fails-lowest : {n : ℕ} → r ≡ Fails n → LowestFailing l n
   fails-lowest {n} h = go which h
     where
-      go : {q : Answer} → Seen l q → q ≡ Fails n → LowestFailing l n
+      go : {q : DeskVerdict} → Seen l q → q ≡ Fails n → LowestFailing l n
       go (ill z) h = absurd (let z : _≡_ {A = ℕ} 0 1 = cc in omega arith)
       go (failed {n = m} L z b up f) h =
           let d : m ≡ n = cc in
@@ -70,7 +70,7 @@ module _ (l : List ℕ) {r : Answer} (g : DeskGives answerAs l r) where
   pub ill-unread : r ≡ Ill → readLedger l ≡ none
   ill-unread h = go which h
     where
-      go : {q : Answer} → Seen l q → q ≡ Ill → readLedger l ≡ none
+      go : {q : DeskVerdict} → Seen l q → q ≡ Ill → readLedger l ≡ none
       go (ill z) h = z
       go (failed L z b up f) h = absurd (let z : _≡_ {A = ℕ} 0 1 = cc in omega arith)
       go (passed L z c v) h = absurd (let z : _≡_ {A = ℕ} 0 1 = cc in omega arith)
@@ -78,7 +78,7 @@ module _ (l : List ℕ) {r : Answer} (g : DeskGives answerAs l r) where
   pub unread-ill : readLedger l ≡ none → r ≡ Ill
   unread-ill h = go which
     where
-      go : {q : Answer} → Seen l q → q ≡ Ill
+      go : {q : DeskVerdict} → Seen l q → q ≡ Ill
       go (ill z) = refl
       go (failed L z b up f) = absurd (let z : _≡_ {A = ℕ} 0 1 = cc in omega arith)
       go (passed L z c v) = absurd (let z : _≡_ {A = ℕ} 0 1 = cc in omega arith)
@@ -87,13 +87,13 @@ module _ (l : List ℕ) {r : Answer} (g : DeskGives answerAs l r) where
   pub valid-passes : (L : List Step) → readLedger l ≡ some L → Valid L → r ≡ Passes (length L)
   valid-passes L h v = go which
     where
-      go : {q : Answer} → Seen l q → q ≡ Passes (length L)
+      go : {q : DeskVerdict} → Seen l q → q ≡ Passes (length L)
       go (ill z) = absurd (let z : _≡_ {A = ℕ} 0 1 = cc in omega arith)
       go (failed {n} M z b up f) = let d : M ≡ L = cc in absurd (subst (λ (K : List Step). n < length K → (Follows K n (stepAt K n) → ⊥) → ⊥) (sym d) (λ c g. g (v n c)) b f)
       go (passed M z c w) = let d : M ≡ L = cc in ap Passes (sym c ∙ ap length d)
 
 -- Document 01's number and values tell the answers apart.
-pub said-one : (r q : Answer) → inDocument r ≡ inDocument q → r ≡ q
+pub said-one : (r q : DeskVerdict) → inDocument r ≡ inDocument q → r ≡ q
 said-one Ill Ill h = refl
 said-one Ill (Fails n) h = absurd (let z : _≡_ {A = ℕ} 0 1 = cc in omega arith)
 said-one Ill (Passes n) h = absurd (let z : _≡_ {A = ℕ} 0 1 = cc in omega arith)

@@ -2,7 +2,8 @@
 use mathlib.Core.List.{List, [], _∷_}
 use Prim.Native.Nat.{ℕ}
 use Rattle.calculus.specs.Rules.{pass, fail}
-use Rattle.calculus.specs.Refusal.{number, ill-formed-ledger, does-not-follow}
+use Rattle.refusals.specs.declared.Refusal.the-variants.{IllFormedLedger, DoesNotFollow}
+use Rattle.refusals.specs.Refusals.{number}
 use Rattle.calculus.specs.Desk.{DeskAnswer, unreadable, judged, DeskGives}
 use Rattle.desk.specs.declared.Verdict.{Verdict}
 use Rattle.desk.specs.declared.Verdict.the-variants.{Ill, Fails, Passes}
@@ -20,15 +21,15 @@ pub data Said : Type 0 where
 
 -- Document 01's number and values for each answer.
 abbrev pub inDocument : Verdict → Said
-inDocument Ill = refused (number ill-formed-ledger) []
-inDocument (Fails n) = refused (number does-not-follow) (n ∷ [])
+inDocument Ill = refused (number IllFormedLedger) []
+inDocument (Fails n) = refused (number DoesNotFollow) (n ∷ [])
 inDocument (Passes n) = answered (n ∷ [])
 
 -- The calculus' answer in document 01's terms.
 abbrev pub said : DeskAnswer → Said
-said unreadable = refused (number ill-formed-ledger) []
+said unreadable = refused (number IllFormedLedger) []
 said (judged (pass n)) = answered (n ∷ [])
-said (judged (fail n)) = refused (number does-not-follow) (n ∷ [])
+said (judged (fail n)) = refused (number DoesNotFollow) (n ∷ [])
 
 -- The code's answer is the calculus', and says the same in document 01's terms.
 pub record Answers (l : List ℕ) (r : Verdict) : Type 0 where

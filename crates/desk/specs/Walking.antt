@@ -7,13 +7,13 @@ use lib.ListN.{length, getD}
 use Rattle.calculus.specs.Judgement.{Step}
 use Rattle.calculus.specs.Rules.{stepAt, judgementAt}
 use Rattle.ledger.specs.Ledger.{stepsOf}
-use Rattle.rules.specs.Standing.{Stands}
+use Rattle.rules.specs.Standing.{JudgementIn}
 
 -- The judgement of step i stands in the range a to b, with its predicate's number p.
 pub record Claimed (l : List ℕ) (p a b i : ℕ) : Type 0 where
   pub ordered : a ≤ b
   pub within : b ≤ length l
-  pub stands : Stands l p a b (judgementAt (stepsOf l) i)
+  pub stands : JudgementIn l p a b (judgementAt (stepsOf l) i)
 
 -- The first m claims are of the steps with these numbers.
 pub record Filled (l numbers : List ℕ) (m : ℕ) (preds from to : List ℕ) : Type 0 where

@@ -18,7 +18,7 @@ use Rattle.formula.proofs.Reading.{encode-pos}
 use Rattle.clauses.specs.Normal.{Handling, limited, prune, pairs, both, clauses}
 use Rattle.clauses.specs.Words.{noneOf}
 use Rattle.clauses.specs.declared.Clause.{Clause as Bits}
-use Rattle.clauses.specs.Lists.{Stands, manyOf, Lists, nodeList}
+use Rattle.clauses.specs.Lists.{Placed, manyOf, Lists, nodeList}
 use Rattle.clauses.proofs.Lengths.{leaves-nodes, prune-length, clauses-few, clauses-room}
 use Rattle.dnf.proofs.PairLaws.{read-below}
 use Rattle.dnf.proofs.JoinLaws.{before-less}
@@ -28,12 +28,12 @@ use Rattle.dnf.specs.Finding.{ranked, rankedClause, literalAt, constants
 -- ---- one clause, or none
 
 pub no-clause : {A : Type 0} (to : ℕ) (l : List A) → to ≤ length l → Lists (some []) to l 0 l
-no-clause to l h = record { many = refl; here = λ xs e. subst (λ ys. Stands ys to l 0) (Option·some-injective [] xs e) (record { many = refl; room = omega (arith, h); here = refl }); before = refl; same = refl }
+no-clause to l h = record { many = refl; here = λ xs e. subst (λ ys. Placed ys to l 0) (Option·some-injective [] xs e) (record { many = refl; room = omega (arith, h); here = refl }); before = refl; same = refl }
 
 pub one-clause : {A : Type 0} (to : ℕ) (l : List A) (x : A) → to < length l → Lists (some (x ∷ [])) to l 1 (set l to x)
 one-clause to l x h = record {
   many = refl;
-  here = λ xs e. subst (λ ys. Stands ys to (set l to x) 1) (Option·some-injective (x ∷ []) xs e) (record { many = refl; room = omega (arith, h, length-set l to x); here = stands });
+  here = λ xs e. subst (λ ys. Placed ys to (set l to x) 1) (Option·some-injective (x ∷ []) xs e) (record { many = refl; room = omega (arith, h, length-set l to x); here = stands });
   before = take-set-le to l to x (omega arith);
   same = length-set l to x;
 }

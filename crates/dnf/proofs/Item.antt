@@ -37,7 +37,7 @@ use mir.Syntax.{w64}
 use borrow.Table.Reads.{ReadsAs}
 use mir.Val.{vint}
 use mir.Syntax.{tyInt}
-use Rattle.dnf.proofs.Plan.{Here, Frame, Step, Roomy, env, tyAt, spot}
+use Rattle.dnf.proofs.Plan.{Here, Frame, Action, Roomy, env, tyAt, spot}
 
 -- the type, and what a value is taken to be past a list's end
 pub record Elem : Type 2 where
@@ -78,7 +78,7 @@ pub makes : (X : Elem) (c : Here) → Y.Makes (c .𝓤) (c .H) (c .A) (λ ρ. Un
 makes X c = Y.makes-mem (c .𝓤) (c .H) (c .A) (c .W) (λ ρ. Unit {0}) (X .R) (X .one) (whole (X .R)) (λ x. x) (λ ρ told. L.whole-mem (c .𝓤) (c .H) (c .A) (c .W) (X .R) ρ)
 
 -- `d = copy y`
-abbrev pub copy : {F : Frame} {Γ : Cx} (X : Elem) (y d : ℕ) → (h : Holds X (ent₁ Γ y d .1)) → Roomy (ent₂ Γ y d .1) (mty X) → tyAt F (ent₁ Γ y d .0) ≡ mty X → tyAt F (ent₂ Γ y d .0) ≡ mty X → Step F Γ (AfterLend Γ y d (ent₁ Γ y d .1) (whole (X .R)))
+abbrev pub copy : {F : Frame} {Γ : Cx} (X : Elem) (y d : ℕ) → (h : Holds X (ent₁ Γ y d .1)) → Roomy (ent₂ Γ y d .1) (mty X) → tyAt F (ent₁ Γ y d .0) ≡ mty X → tyAt F (ent₂ Γ y d .0) ≡ mty X → Action F Γ (AfterLend Γ y d (ent₁ Γ y d .1) (whole (X .R)))
 copy {F} {Γ} X y d h r ey ed = record {
   code = _;
   φ = LC.Φval-copy Γ y d (X .R) (ent₁ Γ y d .1) (whole (X .R)) (h .of) (λ x. x) (λ x. x);
@@ -88,7 +88,7 @@ copy {F} {Γ} X y d h r ey ed = record {
 
 -- `d = copy *q`, where q points at element idx of the mutable slice s
 abbrev pub load : {F : Frame} {Γ : Cx} (X : Elem) (s q d α : ℕ) (τ : Ty) (idx : Mo Γ → ℕ) (a : Like (ent₁ Γ s q .1) (mslice (X .R) τ α)) (b : Like (ent₂ Γ s q .1) (sc-here sPtr)) → Roomy (getRow d (tab₂ Γ s q) .1) (mty X)
-    → IsTok (getLife α (Γ .slots)) → tyAt F (ent₂ Γ s q .0) ≡ tyPtr → tyAt F (getRow d (tab₂ Γ s q) .0) ≡ mty X → Step F Γ (AfterSl (X .R) Γ s q d α τ (getLife α (Γ .slots)) (whole (X .R)))
+    → IsTok (getLife α (Γ .slots)) → tyAt F (ent₂ Γ s q .0) ≡ tyPtr → tyAt F (getRow d (tab₂ Γ s q) .0) ≡ mty X → Action F Γ (AfterSl (X .R) Γ s q d α τ (getLife α (Γ .slots)) (whole (X .R)))
 load {F} {Γ} X s q d α τ idx a b r tk eq ed = record {
   code = _;
   φ = Mv.Φsl-copy-out (X .R) Γ s q d α τ (getLife α (Γ .slots)) (whole (X .R)) (bySize (X .size)) idx (λ x. x) (X .past) (λ x. Unit {0}) (a .to) (b .to);
@@ -98,7 +98,7 @@ load {F} {Γ} X s q d α τ idx a b r tk eq ed = record {
 
 -- the same of a shared slice
 abbrev pub look : {F : Frame} {Γ : Cx} (X : Elem) (s q d α : ℕ) (τ : Ty) (idx : Mo Γ → ℕ) (a : Like (ent₁ Γ s q .1) (sslice (X .R) τ α)) (b : Like (ent₂ Γ s q .1) (sc-here sPtr)) → Roomy (getRow d (tab₂ Γ s q) .1) (mty X)
-    → IsTok (getLife α (Γ .slots)) → tyAt F (ent₂ Γ s q .0) ≡ tyPtr → tyAt F (getRow d (tab₂ Γ s q) .0) ≡ mty X → Step F Γ (AfterShs (X .R) Γ s q d α τ (getLife α (Γ .slots)) (whole (X .R)))
+    → IsTok (getLife α (Γ .slots)) → tyAt F (ent₂ Γ s q .0) ≡ tyPtr → tyAt F (getRow d (tab₂ Γ s q) .0) ≡ mty X → Action F Γ (AfterShs (X .R) Γ s q d α τ (getLife α (Γ .slots)) (whole (X .R)))
 look {F} {Γ} X s q d α τ idx a b r tk eq ed = record {
   code = _;
   φ = Mv.Φshs-copy-out (X .R) Γ s q d α τ (getLife α (Γ .slots)) (whole (X .R)) (bySize (X .size)) idx (λ x. x) (X .past) (λ x. Unit {0}) (a .to) (b .to);
@@ -108,7 +108,7 @@ look {F} {Γ} X s q d α τ idx a b r tk eq ed = record {
 
 -- `*q = copy y`
 abbrev pub store : {F : Frame} {Γ : Cx} (X : Elem) (s q y α : ℕ) (τ : Ty) (idx : Mo Γ → ℕ) (a : Like (ent₁ Γ s q .1) (mslice (X .R) τ α)) (b : Like (ent₂ Γ s q .1) (sc-here sPtr)) (h : Holds X (getRow y (tab₂ Γ s q) .1))
-    → IsTok (getLife α (Γ .slots)) → tyAt F (ent₂ Γ s q .0) ≡ tyPtr → tyAt F (getRow y (tab₂ Γ s q) .0) ≡ mty X → Step F Γ (AfterSl (X .R) Γ s q y α τ (getLife α (Γ .slots)) (getRow y (tab₂ Γ s q) .1))
+    → IsTok (getLife α (Γ .slots)) → tyAt F (ent₂ Γ s q .0) ≡ tyPtr → tyAt F (getRow y (tab₂ Γ s q) .0) ≡ mty X → Action F Γ (AfterSl (X .R) Γ s q y α τ (getLife α (Γ .slots)) (getRow y (tab₂ Γ s q) .1))
 store {F} {Γ} X s q y α τ idx a b h tk eq ed = record {
   code = _;
   φ = Mv.Φsl-set-from (X .R) Γ s q y α τ (getLife α (Γ .slots)) (getRow y (tab₂ Γ s q) .1) (bySize (X .size)) idx (a .to) (b .to) (h .of) (λ x. x);
@@ -140,7 +140,7 @@ pub record Callee (F : Frame) : Type 3 where
 
 abbrev pub call : {F : Frame} {Γ : Cx} (f : Callee F) (ar : ArgsT (f .ps) (Γ .locals)) (nd : ℕ) (βs : List ℕ) → ((c : Here) → Has (c .𝓤) (c .H) (c .A) (env F c) (f .n) βs (λ pos β. β) (f .ps) (Γ .locals) ar)
     → Roomy (dest (f .ps) Γ ar nd .1) (tyRC (f .r) (tyAt F (dest (f .ps) Γ ar nd .0))) → HasH (f .n) βs (Γ .slots) → DestOK (f .r) βs (tyAt F (dest (f .ps) Γ ar nd .0))
-    → Step F Γ (Γafter (f .ps) (f .r) Γ ar nd βs (tyAt F (dest (f .ps) Γ ar nd .0)))
+    → Action F Γ (Γafter (f .ps) (f .r) Γ ar nd βs (tyAt F (dest (f .ps) Γ ar nd .0)))
 call {F} {Γ} f ar nd βs has room hh ok = record {
   code = _;
   φ = both (callB (f .ps) (f .r) (f .P) (f .Q) Γ ar nd βs (tyAt F (dest (f .ps) Γ ar nd .0)));

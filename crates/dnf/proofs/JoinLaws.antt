@@ -12,7 +12,7 @@ use lib.Seq.{length-take-le, take-add, take-take, drop-drop, drop-at}
 use borrow.Author.Tests.{le-leb, lt-leb, leb-true}
 use Rattle.formula.specs.Answers.{pick}
 use Rattle.clauses.specs.Normal.{Handling, limited, prune, leastOf, entered, pairs}
-use Rattle.clauses.specs.Lists.{Stands, Replaces, Adds, Lists, nodeList}
+use Rattle.clauses.specs.Lists.{Placed, Replaces, Adds, Lists, nodeList}
 use Rattle.dnf.proofs.PairLaws.{many}
 
 no-list : {A : Type 0} (x : A) → none ≡ some x → ⊥
@@ -25,7 +25,7 @@ over H xs {at} {l} {l′} h b s = subst (λ o. Lists o at l 257 l′) (sym (ap (
 -- pruned
 done : {A : Type 0} (H : Handling A) (xs : List A) {at : ℕ} {l : List A} {n : ℕ} {l′ : List A} → length xs ≤ 256 → Replaces (leastOf (H .below) (entered (H .order) [] xs)) at l n l′ → Lists (limited H xs) at l n l′
 unfolding prune
-done H xs {at} {l} {n} {l′} h r = subst (λ o. Lists o at l n l′) (sym (ap (λ x. pick x (some (prune H xs)) none) (le-leb (length xs) 256 h))) (record { many = r .stands .many; here = λ ys e. subst (λ zs. Stands zs at l′ n) (Option·some-injective _ _ e) (r .stands); before = r .before; same = r .same })
+done H xs {at} {l} {n} {l′} h r = subst (λ o. Lists o at l n l′) (sym (ap (λ x. pick x (some (prune H xs)) none) (le-leb (length xs) 256 h))) (record { many = r .stands .many; here = λ ys e. subst (λ zs. Placed zs at l′ n) (Option·some-injective _ _ e) (r .stands); before = r .before; same = r .same })
 
 -- What stays before a place stays before a lower one.
 pub before-less : {A : Type 0} (at to : ℕ) (l l′ : List A) → at ≤ to → take to l′ ≡ take to l → take at l′ ≡ take at l

@@ -36,7 +36,7 @@ use borrow.Rule.Array.Gives.{elem-local}
 use borrow.Rule.Array.Rows.{arrF, arr-owed}
 use borrow.Rule.AtSlots as At
 use borrow.Rule.Yields.{Yields}
-use Rattle.dnf.proofs.Plan.{Here, Frame, Step, Quiet, Roomy, Part, Is, env, tyAt, spot}
+use Rattle.dnf.proofs.Plan.{Here, Frame, Action, Quiet, Roomy, Part, Is, env, tyAt, spot}
 use Rattle.dnf.proofs.Item.{Elem, Like, mty, yields-item}
 
 -- ---- lifetimes
@@ -51,7 +51,7 @@ forget {F} {Γ} α = record { φ = pass Γ (Lt.Forgot Γ α) (λ u. u); go = λ 
 
 -- ---- a slice is lent again: its pointer, with a name of its own, and then the whole value
 abbrev pub relend : {F : Frame} {Γ : Cx} (X : Elem) (m d α β : ℕ) (τ τ′ : Ty) (a : Like (ent₁ Γ m d .1) (mslice (X .R) τ α)) → Roomy (ent₂ Γ m d .1) τ′ → IsTok (getLife α (Γ .slots)) → fieldOf (tyAt F (ent₁ Γ m d .0)) 0 ≡ some (τ, 0)
-    → fieldAt zero (tcons τ (tcons (tyInt w64) tnil)) 0 ≡ some (τ, 0) → tyAt F (ent₂ Γ m d .0) ≡ τ′ → ((b o : ℕ) → T (hasTy τ′ (vptr b o))) → Step F Γ (Rl.AfterLend (X .R) Γ m d α β τ τ′ (getLife α (Γ .slots)))
+    → fieldAt zero (tcons τ (tcons (tyInt w64) tnil)) 0 ≡ some (τ, 0) → tyAt F (ent₂ Γ m d .0) ≡ τ′ → ((b o : ℕ) → T (hasTy τ′ (vptr b o))) → Action F Γ (Rl.AfterLend (X .R) Γ m d α β τ τ′ (getLife α (Γ .slots)))
 relend {F} {Γ} X m d α β τ τ′ a r tk em e₀ ed ty = record {
   code = _;
   φ = Rl.Φsl-relend (X .R) Γ m d α β τ τ′ (getLife α (Γ .slots)) (a .to);
@@ -60,7 +60,7 @@ relend {F} {Γ} X m d α β τ τ′ a r tk em e₀ ed ty = record {
 }
 
 abbrev pub slice : {F : Frame} {Γ : Cx} (X : Elem) (p d β : ℕ) (τ τf : Ty) (a : Like (ent₁ Γ p d .1) (Rl.msptr (X .R) τ β)) → Roomy (ent₂ Γ p d .1) (sliceTy τf) → (n : Is F (tab₂ Γ p d) (sInt w64)) → tyAt F (ent₁ Γ p d .0) ≡ τ → tyAt F (ent₂ Γ p d .0) ≡ sliceTy τf
-    → ((b o k : ℕ) → T (hasTy (sliceTy τf) (sliceVal (b, o) k))) → Step F Γ (Rl.AfterAgg (X .R) (Rl.asMut (X .R)) Γ p d β τ τf)
+    → ((b o k : ℕ) → T (hasTy (sliceTy τf) (sliceVal (b, o) k))) → Action F Γ (Rl.AfterAgg (X .R) (Rl.asMut (X .R)) Γ p d β τ τf)
 slice {F} {Γ} X p d β τ τf a r n ep ed ty = record {
   code = _;
   φ = Rl.Φsl-aggregate (X .R) (Rl.asMut (X .R)) Γ p d β τ τf (a .to) (n .opn .x);
@@ -104,7 +104,7 @@ block-at c (τ ∷ τs) bs (suc n) = block-at c τs (tl bs) n
 
 -- `d = &mut a`, the array lent
 abbrev pub lend : {F : Frame} {Γ : Cx} (X : Elem) (a d n β : ℕ) (τ : Ty) (l : Like (ent₁ Γ a d .1) (arrF (X .R) n zero)) → Roomy (ent₂ Γ a d .1) τ → tyAt F (ent₂ Γ a d .0) ≡ τ → ((b o : ℕ) → T (hasTy τ (vptr b o))) → Room (X .R) n
-    → Step F Γ (AfterLend Γ a d (arr-owed (X .R) n β) (Rl.msptr (X .R) τ β))
+    → Action F Γ (AfterLend Γ a d (arr-owed (X .R) n β) (Rl.msptr (X .R) τ β))
 lend {F} {Γ} X a d n β τ l r ed ty rm = record {
   code = mir.Syntax.assign (mir.Syntax.place (ent₂ Γ a d .0) []) (mir.Syntax.addrOf (mir.Syntax.place (ent₁ Γ a d .0) []));
   φ = Br.Φarr-borrow (X .R) Γ (blocks (F .tys) (F .bs) (ent₁ Γ a d .0)) a d n β τ (l .to);
@@ -135,7 +135,7 @@ abbrev pub kept : (X : Elem) (s : Shown X) → Kept X s (whole (X .R))
 kept X s = record { of = λ x. x; reads = s .reads; yields = yields-item X }
 
 abbrev pub repeat : {F : Frame} {Γ : Cx} (X : Elem) (s : Shown X) (y d n : ℕ) (k : Kept X s (getRow y (out d (Γ .locals)) .1)) → Roomy (getRow d (Γ .locals) .1) (tyArray (mty X) n) → tyAt F (getRow y (out d (Γ .locals)) .0) ≡ mty X → tyAt F (getRow d (Γ .locals) .0) ≡ tyArray (mty X) n
-    → Step F Γ (After Γ d (whole (Array (X .R) n)))
+    → Action F Γ (After Γ d (whole (Array (X .R) n)))
 repeat {F} {Γ} X s y d n k r ey ed = record {
   code = _;
   φ = pass Γ (After Γ d (whole (Array (X .R) n))) (Rp.n-repeat (X .R) n Γ d (λ m. k .of (get y (out d (Γ .locals)) m)));
@@ -146,7 +146,7 @@ repeat {F} {Γ} X s y d n k r ey ed = record {
 
 -- ---- a `&mut [T]` lent as `&[T]`
 abbrev pub reshare : {F : Frame} {Γ : Cx} (X : Elem) (m d α β : ℕ) (τ τ′ : Ty) (a : Like (ent₁ Γ m d .1) (mslice (X .R) τ α)) → Roomy (ent₂ Γ m d .1) τ′ → IsTok (getLife α (Γ .slots)) → fieldOf (tyAt F (ent₁ Γ m d .0)) 0 ≡ some (τ, 0)
-    → fieldAt zero (tcons τ (tcons (tyInt w64) tnil)) 0 ≡ some (τ, 0) → tyAt F (ent₂ Γ m d .0) ≡ τ′ → ((b o : ℕ) → T (hasTy τ′ (vptr b o))) → Step F Γ (Rs.AfterReshare (X .R) Γ m d α β τ τ′ (getLife α (Γ .slots)))
+    → fieldAt zero (tcons τ (tcons (tyInt w64) tnil)) 0 ≡ some (τ, 0) → tyAt F (ent₂ Γ m d .0) ≡ τ′ → ((b o : ℕ) → T (hasTy τ′ (vptr b o))) → Action F Γ (Rs.AfterReshare (X .R) Γ m d α β τ τ′ (getLife α (Γ .slots)))
 reshare {F} {Γ} X m d α β τ τ′ a r tk em e₀ ed ty = record {
   code = _;
   φ = Rs.Φsl-reshare (X .R) Γ m d α β τ τ′ (getLife α (Γ .slots)) (a .to);
@@ -155,7 +155,7 @@ reshare {F} {Γ} X m d α β τ τ′ a r tk em e₀ ed ty = record {
 }
 
 abbrev pub slice-shr : {F : Frame} {Γ : Cx} (X : Elem) (p d β : ℕ) (τ τf : Ty) (a : Like (ent₁ Γ p d .1) (Rl.ssptr (X .R) τ β)) → Roomy (ent₂ Γ p d .1) (sliceTy τf) → (n : Is F (tab₂ Γ p d) (sInt w64)) → tyAt F (ent₁ Γ p d .0) ≡ τ → tyAt F (ent₂ Γ p d .0) ≡ sliceTy τf
-    → ((b o k : ℕ) → T (hasTy (sliceTy τf) (sliceVal (b, o) k))) → Step F Γ (Rl.AfterAgg (X .R) (Rl.asShr (X .R)) Γ p d β τ τf)
+    → ((b o k : ℕ) → T (hasTy (sliceTy τf) (sliceVal (b, o) k))) → Action F Γ (Rl.AfterAgg (X .R) (Rl.asShr (X .R)) Γ p d β τ τf)
 slice-shr {F} {Γ} X p d β τ τf a r n ep ed ty = record {
   code = _;
   φ = Rl.Φsl-aggregate (X .R) (Rl.asShr (X .R)) Γ p d β τ τf (a .to) (n .opn .x);

@@ -61,7 +61,7 @@ pub record Plan (F : Frame) (Γ : Cx) (Δ : Outs) : Type 2 where
   pub Φ : TF Γ Δ
   pub typed : (c : Here) → F .Kn c → Typed (c .𝓤) (c .H) (c .A) (c .𝓣) (env F c) Γ code Δ Φ
 
-pub record Step (F : Frame) (Γ Γ₁ : Cx) : Type 2 where
+pub record Action (F : Frame) (Γ Γ₁ : Cx) : Type 2 where
   pub code : Body
   pub φ : Tf Γ Γ₁
   pub go : (c : Here) → F .Kn c → Stmt (c .𝓤) (c .H) (c .A) (c .𝓣) (env F c) Γ code Γ₁ φ
@@ -71,7 +71,7 @@ pub record Quiet (F : Frame) (Γ Γ₁ : Cx) : Type 2 where
   pub go : (c : Here) → Ghost (c .𝓤) (c .H) (c .A) (env F c) Γ Γ₁ φ
 
 infixr 3 _▸_
-abbrev pub _▸_ : {F : Frame} {Γ Γ₁ : Cx} {Δ : Outs} → Step F Γ Γ₁ → Plan F Γ₁ Δ → Plan F Γ Δ
+abbrev pub _▸_ : {F : Frame} {Γ Γ₁ : Cx} {Δ : Outs} → Action F Γ Γ₁ → Plan F Γ₁ Δ → Plan F Γ Δ
 _▸_ {F} {Γ} {Γ₁} {Δ} s p = record {
   code = seq (s .code) (p .code);
   Φ = λ Ψ. s .φ (p .Φ Ψ);
@@ -88,14 +88,14 @@ _▹_ {F} {Γ} {Γ₁} {Δ} s p = record {
 
 -- a ghost step after a statement, which is then the last of its part
 infixl 4 _◃_
-abbrev pub _◃_ : {F : Frame} {Γ Γ₁ Γ₂ : Cx} → Step F Γ Γ₁ → Quiet F Γ₁ Γ₂ → Step F Γ Γ₂
+abbrev pub _◃_ : {F : Frame} {Γ Γ₁ Γ₂ : Cx} → Action F Γ Γ₁ → Quiet F Γ₁ Γ₂ → Action F Γ Γ₂
 _◃_ {F} {Γ} {Γ₁} {Γ₂} s g = record {
   code = s .code;
   φ = λ Ψ. s .φ (g .φ Ψ);
   go = λ c k. T.g-post (c .𝓤) (c .H) (c .A) (c .W) (c .𝓣) (env F c) Γ Γ₁ Γ₂ (s .code) (s .φ) (g .φ) (s .go c k) (g .go c);
 }
 
-abbrev pub last : {F : Frame} {Γ : Cx} {Δ : Outs} → Leaves (Δ .next) → Step F Γ (T.the (Δ .next)) → Plan F Γ Δ
+abbrev pub last : {F : Frame} {Γ : Cx} {Δ : Outs} → Leaves (Δ .next) → Action F Γ (T.the (Δ .next)) → Plan F Γ Δ
 last {F} {Γ} {Δ} z s = record {
   code = s .code;
   Φ = λ Ψ. s .φ (T.atNext Δ Ψ);
@@ -254,7 +254,7 @@ abbrev pub bool : Plain sBool
 bool = record { back = λ a. refl; fits = λ a. tt }
 
 -- `d = x`
-abbrev pub put : {F : Frame} {Γ : Cx} {σ : Sc} (x : Is F (Γ .locals) σ) (n : ℕ) → Roomy (getRow n (Γ .locals) .1) (σ .ty) → tyAt F (getRow n (Γ .locals) .0) ≡ σ .ty → Plain σ → Step F Γ (After Γ n (sc-here σ))
+abbrev pub put : {F : Frame} {Γ : Cx} {σ : Sc} (x : Is F (Γ .locals) σ) (n : ℕ) → Roomy (getRow n (Γ .locals) .1) (σ .ty) → tyAt F (getRow n (Γ .locals) .0) ≡ σ .ty → Plain σ → Action F Γ (After Γ n (sc-here σ))
 put {F} {Γ} {σ} x n r e p = record {
   code = _;
   φ = Sc.Φuse Γ (x .opn .x) n (sc-here σ) (σ .of);
@@ -269,7 +269,7 @@ pub record Op (ρ₁ ρ₂ σ : Sc) : Type 1 where
   pub fits : (a : ρ₁ .Den) (b : ρ₂ .Den) → T (hasTy (σ .ty) (op2Val op (ρ₁ .val a) (ρ₂ .val b)))
 
 -- `d = op x y`
-abbrev pub op : {F : Frame} {Γ : Cx} {ρ₁ ρ₂ σ : Sc} (o : Op ρ₁ ρ₂ σ) (x : Is F (Γ .locals) ρ₁) (y : Is F (Γ .locals) ρ₂) (n : ℕ) → Roomy (getRow n (Γ .locals) .1) (σ .ty) → tyAt F (getRow n (Γ .locals) .0) ≡ σ .ty → Step F Γ (After Γ n (sc-here σ))
+abbrev pub op : {F : Frame} {Γ : Cx} {ρ₁ ρ₂ σ : Sc} (o : Op ρ₁ ρ₂ σ) (x : Is F (Γ .locals) ρ₁) (y : Is F (Γ .locals) ρ₂) (n : ℕ) → Roomy (getRow n (Γ .locals) .1) (σ .ty) → tyAt F (getRow n (Γ .locals) .0) ≡ σ .ty → Action F Γ (After Γ n (sc-here σ))
 op {F} {Γ} {ρ₁} {ρ₂} {σ} o x y n r e = record {
   code = _;
   φ = Sc.Φop2 Γ (o .op) (x .opn .x) (y .opn .x) n (sc-here σ) (σ .of);
@@ -294,7 +294,7 @@ pub record Free (ρ₁ ρ₂ σ : Sc) : Type 1 where
   pub it : Op ρ₁ ρ₂ σ
   pub free : (a : ρ₁ .Den) (b : ρ₂ .Den) → Dom (op2Chk (it .op) (ρ₁ .val a) (ρ₂ .val b))
 
-abbrev pub calc : {F : Frame} {Γ : Cx} {ρ₁ ρ₂ σ : Sc} (o : Free ρ₁ ρ₂ σ) (x : Is F (Γ .locals) ρ₁) (y : Is F (Γ .locals) ρ₂) (n : ℕ) → Roomy (getRow n (Γ .locals) .1) (σ .ty) → tyAt F (getRow n (Γ .locals) .0) ≡ σ .ty → Step F Γ (After Γ n (sc-here σ))
+abbrev pub calc : {F : Frame} {Γ : Cx} {ρ₁ ρ₂ σ : Sc} (o : Free ρ₁ ρ₂ σ) (x : Is F (Γ .locals) ρ₁) (y : Is F (Γ .locals) ρ₂) (n : ℕ) → Roomy (getRow n (Γ .locals) .1) (σ .ty) → tyAt F (getRow n (Γ .locals) .0) ≡ σ .ty → Action F Γ (After Γ n (sc-here σ))
 calc {F} {Γ} {ρ₁} {ρ₂} {σ} o x y n r e = record {
   code = op {Γ = Γ} (o .it) x y n r e .code;
   φ = T.pass Γ (After Γ n (sc-here σ)) (Sc.k-op2 Γ (o .it .op) (x .opn .x) (y .opn .x) n (sc-here σ) (σ .of) .next);

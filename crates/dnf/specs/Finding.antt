@@ -8,7 +8,7 @@ use lib.ListN.{length, getD, drop}
 use Rattle.formula.specs.Formula.{Face}
 use Rattle.formula.specs.Bytes.{dimAt, encodeFace, nodesFace}
 use Rattle.formula.specs.Answers.{pick}
-use Rattle.clauses.specs.Normal.{numbered, Handling, Leaves, clauses}
+use Rattle.clauses.specs.Normal.{numbered, Handling, LeafCases, clauses}
 use Rattle.clauses.specs.Words.{noneOf, singleOf}
 use Rattle.clauses.specs.declared.Clause.{Clause as Bits}
 use Rattle.clauses.specs.Lists.{Lists}
@@ -19,7 +19,7 @@ abbrev pub rankedClause : List ℕ → ℕ → Bits
 rankedClause numbers k = singleOf (position k numbers)
 
 -- The clauses of the constants and of literals, as bits.
-abbrev pub ranked : List ℕ → Leaves Bits
+abbrev pub ranked : List ℕ → LeafCases Bits
 ranked numbers = record { always = noneOf; single = λ e n. rankedClause numbers (numbered e n) }
 
 -- The clause of the literal whose bytes stand at a place.

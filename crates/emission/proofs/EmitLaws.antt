@@ -22,7 +22,7 @@ use Rattle.index.specs.Finding.{findBytes, foundAs}
 use Rattle.index.proofs.SameLaws.{find-same, found-some, found-none}
 use Rattle.emission.specs.declared.Emitted.{Emitted}
 use Rattle.emission.specs.declared.Emitted.the-variants.{Full, Step as Number}
-use Rattle.emission.specs.Emitting.{Stands, Appends, Ran, Emission, EmissionAs}
+use Rattle.emission.specs.Emitting.{StandsFor, Appends, Ran, Emission, EmissionAs}
 
 -- A well-formed step more keeps a ledger well formed.
 formed-snoc : (k : ℕ) (L : List Step) (s : Step) → FormedFrom k L → FormedStep (k + length L) s → FormedFrom k (L ++ s ∷ [])
@@ -37,22 +37,22 @@ holds-more {l} {l′} {L} h s f b e =
     (n, record { bytes = e ∙ ap (λ (k : ℕ). ledgerBytes k (L ++ s ∷ [])) (sym n); fits = omega arith; small = omega (arith, h .small); formed = formed-snoc 0 L s (h .formed) g })
 
 -- What the search on bytes finds is what the emit rule asks for.
-asked : {l : List ℕ} → Led l → (s : Step) → FormedStep (length (stepsOf l)) s → (p : ℕ) (is x : List ℕ) (kind : ℕ) → Stands s kind is x → numberOf (predicate (s .judgement)) ≡ p
+asked : {l : List ℕ} → Led l → (s : Step) → FormedStep (length (stepsOf l)) s → (p : ℕ) (is x : List ℕ) (kind : ℕ) → StandsFor s kind is x → numberOf (predicate (s .judgement)) ≡ p
     → (o : Option ℕ) → findBytes p x (stepsOf l) ≡ o → find (s .judgement) (stepsOf l) ≡ o
 asked {l} h s f p is x kind t e o i =
     sym (find-same (s .judgement) (f .limits) 0 (stepsOf l) (h .formed)) ∙ ap₂ (λ (q : ℕ) (y : List ℕ). findBytes q y (stepsOf l)) e (t .judges) ∙ i
 
 -- The emit rule where the judgement stands already.
 pub emit-found : {l : List ℕ} → Led l → (kind p i : ℕ) (is x : List ℕ) → At i ≡ foundAs (findBytes p x (stepsOf l)) (length (stepsOf l))
-    → (s : Step) → FormedStep (length (stepsOf l)) s → Stands s kind is x → numberOf (predicate (s .judgement)) ≡ p
+    → (s : Step) → FormedStep (length (stepsOf l)) s → StandsFor s kind is x → numberOf (predicate (s .judgement)) ≡ p
     → Ran l (run (within (length l)) (emit (s .kind) (s .references) (s .judgement)) (stepsOf l)) (Number i) l
 unfolding run
 emit-found {l} h kind p i is x e s f t q = rw (asked h s f p is x kind t q (some i) (found-some _ _ i e)) (refl, refl, h)
 
 -- Where it is new and there is room, and where there is none.
 pub emit-new : {l : List ℕ} → Led l → (kind p i : ℕ) (is x l′ : List ℕ) → Absent i ≡ foundAs (findBytes p x (stepsOf l)) (length (stepsOf l))
-    → (c : Bool) → c ≡ true → ((s : Step) → Stands s kind is x → Appends l s c l′)
-    → (s : Step) → FormedStep (length (stepsOf l)) s → Stands s kind is x → numberOf (predicate (s .judgement)) ≡ p
+    → (c : Bool) → c ≡ true → ((s : Step) → StandsFor s kind is x → Appends l s c l′)
+    → (s : Step) → FormedStep (length (stepsOf l)) s → StandsFor s kind is x → numberOf (predicate (s .judgement)) ≡ p
     → Ran l (run (within (length l)) (emit (s .kind) (s .references) (s .judgement)) (stepsOf l)) (Number i) l′
 unfolding run
 emit-new {l} h kind p i is x l′ e c k a s f t q =
@@ -62,8 +62,8 @@ emit-new {l} h kind p i is x l′ e c k a s f t q =
     rw (asked h s f p is x kind t q none (n .0), le-leb (size (stepsOf l ++ s ∷ [])) (length l) (b .0)) (n .1, m .0, m .1)
 
 pub emit-full : {l : List ℕ} → Led l → (kind p i : ℕ) (is x l′ : List ℕ) → Absent i ≡ foundAs (findBytes p x (stepsOf l)) (length (stepsOf l))
-    → (c : Bool) → c ≡ false → ((s : Step) → Stands s kind is x → Appends l s c l′)
-    → (s : Step) → FormedStep (length (stepsOf l)) s → Stands s kind is x → numberOf (predicate (s .judgement)) ≡ p
+    → (c : Bool) → c ≡ false → ((s : Step) → StandsFor s kind is x → Appends l s c l′)
+    → (s : Step) → FormedStep (length (stepsOf l)) s → StandsFor s kind is x → numberOf (predicate (s .judgement)) ≡ p
     → Ran l (run (within (length l)) (emit (s .kind) (s .references) (s .judgement)) (stepsOf l)) Full l′
 unfolding run
 emit-full {l} h kind p i is x l′ e c k a s f t q =

@@ -14,7 +14,7 @@ use Rattle.calculus.proofs.Records.{steps-append, ledger-append}
 use Rattle.records.proofs.NumberLaws.{sets-append, sets-behind, drop-zeros}
 use Rattle.ledger.specs.Ledger.{stepsOf, Led}
 use Rattle.ledger.proofs.LedgerLaws.{references-length}
-use Rattle.emission.specs.Emitting.{Stands, rawRecord, Appends}
+use Rattle.emission.specs.Emitting.{StandsFor, rawRecord, Appends}
 
 -- One reference more.
 references-snoc : (is : List ℕ) (i : ℕ) → referencesBytes (is ++ i ∷ []) ≡ referencesBytes is ++ littleEndian 4 i
@@ -56,7 +56,7 @@ four-stores d d₁ d₂ d₃ d₄ at n kind is x e p q r s =
     ∙ record-stores d at n kind is x e
 
 -- The bytes of a record that stand for a step are its record.
-pub stands-record : {s : Step} {kind : ℕ} {is x : List ℕ} → Stands s kind is x → rawRecord kind is x ≡ recordBytes s
+pub stands-record : {s : Step} {kind : ℕ} {is x : List ℕ} → StandsFor s kind is x → rawRecord kind is x ≡ recordBytes s
 unfolding rawRecord recordBytes bodyBytes
 stands-record {s} h = rw (← (h .kinds), ← (h .refers), ← (h .judges))
 
@@ -131,7 +131,7 @@ undo-bytes {l} L T h used e =
 -- A step more, where there is room.
 pub appends : {l : List ℕ} → Led l → (kind n at used : ℕ) (is x d l′ : List ℕ) → length is ≡ n → at ≡ size (stepsOf l) → size (stepsOf l) + (6 + 4 * n + length x) ≤ length l
     → used + 4 ≡ size (stepsOf l) + (6 + 4 * n + length x) → d ≡ sets l at (rawRecord kind is x) → l′ ≡ sets d 0 (littleEndian 4 used)
-    → (s : Step) → Stands s kind is x → Appends l s true l′
+    → (s : Step) → StandsFor s kind is x → Appends l s true l′
 appends {l} h kind n at used is x d l′ e g f u p q s t =
     let r = stands-record t in
     let m = size-more (stepsOf l) s in
@@ -140,7 +140,7 @@ appends {l} h kind n at used is x d l′ e g f u p q s t =
 
 -- Where there is none, nothing changes.
 pub keeps-all : (l : List ℕ) (kind n : ℕ) (is x : List ℕ) → length is ≡ n → length l < size (stepsOf l) + (6 + 4 * n + length x)
-    → (s : Step) → Stands s kind is x → Appends l s false l
+    → (s : Step) → StandsFor s kind is x → Appends l s false l
 keeps-all l kind n is x e f s t =
     let k : length (recordBytes s) ≡ 6 + 4 * n + length x = sym (ap length (stands-record t)) ∙ raw-length kind is x ∙ ap (λ (j : ℕ). 6 + 4 * j + length x) e in
     (omega (arith, size-more (stepsOf l) s), refl)

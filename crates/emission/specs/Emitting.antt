@@ -16,7 +16,7 @@ use Rattle.emission.specs.declared.Emitted.the-variants.{Full}
 use Rattle.emission.specs.declared.Emitted.the-variants.{Step as Number}
 
 -- The bytes stand for the step.
-pub record Stands (s : Step) (kind : ℕ) (references operands : List ℕ) : Type 0 where
+pub record StandsFor (s : Step) (kind : ℕ) (references operands : List ℕ) : Type 0 where
   pub kinds : s .kind ≡ kind
   pub refers : s .references ≡ references
   pub judges : operandBytes (s .judgement) ≡ operands
@@ -34,7 +34,7 @@ Appends l s false l′ = (length l < size (stepsOf l ++ s ∷ [])) × (l′ ≡ 
 
 -- The same for every step that the bytes stand for.
 abbrev pub Appended : List ℕ → ℕ → List ℕ → List ℕ → Bool → List ℕ → Type 0
-Appended l kind references operands r l′ = (s : Step) → Stands s kind references operands → Appends l s r l′
+Appended l kind references operands r l′ = (s : Step) → StandsFor s kind references operands → Appends l s r l′
 
 -- Back to the first steps.
 abbrev pub Undone : List ℕ → ℕ → List ℕ → Type 0
@@ -51,21 +51,21 @@ Ran l full Full l′ = l′ ≡ l
 -- The emit rule for every step that the bytes stand for.
 abbrev pub Emission : List ℕ → ℕ → List ℕ → List ℕ → Emitted → List ℕ → Type 0
 Emission l kind references operands r l′ =
-    (s : Step) → FormedStep (length (stepsOf l)) s → Stands s kind (take (length (s .references)) references) operands
+    (s : Step) → FormedStep (length (stepsOf l)) s → StandsFor s kind (take (length (s .references)) references) operands
     → Ran l (run (within (length l)) (emit (s .kind) (s .references) (s .judgement)) (stepsOf l)) r l′
 
 -- For a private contract: the same where the predicate's number is known.
 abbrev pub EmissionAs : List ℕ → ℕ → List ℕ → ℕ → List ℕ → Emitted → List ℕ → Type 0
 EmissionAs l kind references p operands r l′ =
-    (s : Step) → FormedStep (length (stepsOf l)) s → Stands s kind references operands → numberOf (predicate (s .judgement)) ≡ p
+    (s : Step) → FormedStep (length (stepsOf l)) s → StandsFor s kind references operands → numberOf (predicate (s .judgement)) ≡ p
     → Ran l (run (within (length l)) (emit (s .kind) (s .references) (s .judgement)) (stepsOf l)) r l′
 
 -- The index is kept for every step that the bytes stand for.
 abbrev pub Keeps : List ℕ → ℕ → List ℕ → List ℕ → List ℕ → List ℕ → Type 0
 Keeps l kind references operands l′ x′ =
-    (s : Step) → FormedStep (length (stepsOf l)) s → Stands s kind (take (length (s .references)) references) operands → Indexed l′ x′
+    (s : Step) → FormedStep (length (stepsOf l)) s → StandsFor s kind (take (length (s .references)) references) operands → Indexed l′ x′
 
 -- For a private contract: the same where the predicate's number is known.
 abbrev pub KeepsAs : List ℕ → ℕ → List ℕ → ℕ → List ℕ → List ℕ → List ℕ → Type 0
 KeepsAs l kind references p operands l′ x′ =
-    (s : Step) → FormedStep (length (stepsOf l)) s → Stands s kind references operands → numberOf (predicate (s .judgement)) ≡ p → Indexed l′ x′
+    (s : Step) → FormedStep (length (stepsOf l)) s → StandsFor s kind references operands → numberOf (predicate (s .judgement)) ≡ p → Indexed l′ x′

@@ -44,18 +44,18 @@ fn sort_of(n: usize) -> Sort {
 fn boundary(s: &[u8], zero: &mut [u8], one: &mut [u8]) {
     show::sized(operations::boundary_size(s));
     let x = operations::boundary(s, zero, one);
-    show::outcome(x, zero);
-    show::outcome(x, one);
+    show::written(x, zero);
+    show::written(x, one);
 }
 
 fn transform(sort: Sort, op: Op, s: &[u8], r: &[u8], out: &mut [u8]) {
     show::sized(operations::transform_size(sort, op, s, r));
-    show::outcome(operations::transform(sort, op, s, r, out), out);
+    show::written(operations::transform(sort, op, s, r, out), out);
 }
 
 fn forall(s: &[u8], k: usize, out: &mut [u8]) {
     show::sized(operations::forall_size(s, k));
-    show::outcome(operations::forall(s, k, out), out);
+    show::written(operations::forall(s, k, out), out);
 }
 
 // The operations, with lent slices of `room` bytes; the second slice of a boundary has as many bytes as the number says.

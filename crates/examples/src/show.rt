@@ -1,12 +1,12 @@
 // Answers as text.
+use formula::Advance;
 use formula::Measured;
 use formula::Place;
 use formula::Size;
 use formula::Sort;
-use formula::Step;
 use ledger::Checked;
-use operations::Outcome;
 use operations::Sized;
+use refusals::Refusal;
 
 pub fn yes_no(is_so: bool) {
     if is_so {
@@ -52,21 +52,23 @@ pub fn measured(m: Measured) {
     stdio::text(b"\n");
 }
 
+fn refused(word: &[u8], e: Refusal) {
+    stdio::text(word);
+    stdio::number(refusals::number(e));
+}
+
 pub fn sized(x: Sized) {
     match x {
-        Sized::Ill => stdio::text(b" ill"),
-        Sized::Over => stdio::text(b" over"),
         Sized::Fits(z) => size(b" fits", z),
+        Sized::Refused(e) => refused(b" refused ", e),
     }
 }
 
 // An answer, and all bytes of the lent slice.
-pub fn outcome(x: Outcome, out: &[u8]) {
+pub fn written(x: Sized, out: &[u8]) {
     match x {
-        Outcome::Ill => stdio::text(b"; ill"),
-        Outcome::Over => stdio::text(b"; over"),
-        Outcome::Short(z) => size(b"; short", z),
-        Outcome::Done(z) => size(b"; done", z),
+        Sized::Fits(z) => size(b"; done", z),
+        Sized::Refused(e) => refused(b"; refused ", e),
     }
     line(out);
 }
@@ -94,14 +96,14 @@ fn place(word: &[u8], p: Place) -> Place {
 // One step, on a line of its own; the place behind it, or the same place where it leads nowhere.
 pub fn step(p: Place, sort: Sort, s: &[u8]) -> Place {
     match p.step(sort, s) {
-        Step::Leaf(q) => place(b" leaf", q),
-        Step::Lit(q, n) => {
+        Advance::Leaf(q) => place(b" leaf", q),
+        Advance::Lit(q, n) => {
             stdio::text(b" literal ");
             stdio::number(n);
             place(b"", q)
         }
-        Step::One(q) => place(b" one", q),
-        Step::Two(q) => place(b" two", q),
-        Step::Stuck => place(b" stuck", p),
+        Advance::One(q) => place(b" one", q),
+        Advance::Two(q) => place(b" two", q),
+        Advance::Stuck => place(b" stuck", p),
     }
 }

@@ -13,7 +13,7 @@ use Rattle.formula.specs.declared.Sort.the-variants.{Faces, Intervals}
 use Rattle.formula.specs.Bytes.{Tree, encode, nodes, maxNodes, readAll}
 use Rattle.formula.specs.Answers.{pick}
 use Rattle.operations.proofs.ResultLaws.{len-short}
-use Rattle.calculus.specs.Refusal.{short-output}
+use Rattle.refusals.specs.declared.Refusal.the-variants.{ShortOutput}
 use Rattle.calculus.specs.Judgement.{Step}
 use Rattle.calculus.specs.Rules.{AllBelow, pass, fail}
 use Rattle.calculus.specs.Record.{maxLedger, Holds}
@@ -31,13 +31,13 @@ use Rattle.desk.specs.declared.Verdict.{Verdict}
 use Rattle.desk.proofs.Verdicts.{fails-lowest}
 use Rattle.replies.specs.declared.Made.{Made}
 use Rattle.replies.specs.Replying.{saidOne, saidBoth, Replies}
-use Rattle.text.specs.Reading
+use Rattle.refusals.specs.Refusals
 use Rattle.text.specs.Reading.{Claimed, readClaim}
 use Rattle.text.specs.Answers.{Delivered, saidLength, Lengths, BothDelivered, bothDelivered, saidClaim, ReadsClaim}
 use Rattle.text.specs.declared.Length.{Length}
 use Rattle.text.specs.declared.Claim.{Claim}
 use Rattle.grammar.proofs.Accepting.{ClaimWithin, claim-read}
-use Rattle.numbers.specs.Answers.{deskNumber, replyNumber, lengthNumber, claimNumber, Reads, ReadsBoth, Numbers}
+use Rattle.numbers.specs.Answers.{deskNumber, replyNumber, countNumber, claimNumber, Reads, ReadsBoth, Numbers}
 use Rattle.numbers.specs.Packing.{Packs, ClaimFits, Low, verdictNumber}
 
 -- A ledger has fewer steps than bytes.
@@ -114,8 +114,8 @@ desk-number h e = record { answer = h .answer; says = h .says; given = e ∙ ap 
 
 -- Readers and writers ------------------------------------------------------------------------------------
 
-pub delivered-number : {d : Delivered} {out′ : List ℕ} {r : ℕ} (a : Length) → d ≡ record { answer = saidLength a; output = out′ } → r ≡ lengthNumber (saidLength a) → Reads d r out′
-delivered-number a h e = record { numbered = e ∙ ap (λ (x : Delivered). lengthNumber (x .answer)) (sym h); output = ap (λ (x : Delivered). x .output) (sym h) }
+pub delivered-number : {d : Delivered} {out′ : List ℕ} {r : ℕ} (a : Length) → d ≡ record { answer = saidLength a; output = out′ } → r ≡ countNumber (saidLength a) → Reads d r out′
+delivered-number a h e = record { numbered = e ∙ ap (λ (x : Delivered). countNumber (x .answer)) (sym h); output = ap (λ (x : Delivered). x .output) (sym h) }
 
 pub claim-number : {l a b a′ b′ : List ℕ} {c : Claim} {r : ℕ} → ReadsClaim l a b c a′ b′ → r ≡ claimNumber (saidClaim c) → ReadsBoth (bothDelivered (readClaim l) a b) r a′ b′
 claim-number h e = record { numbered = e ∙ ap (λ (x : BothDelivered). claimNumber (x .answer)) (sym (h .equal)); left = ap (λ (x : BothDelivered). x .left) (sym (h .equal)); right = ap (λ (x : BothDelivered). x .right) (sym (h .equal)) }
@@ -126,26 +126,26 @@ record Bounded (n : Lengths) : Type 0 where
   left : n .left < 65536
   right : n .right < 65536
 
-BoundedAnswer : Reading.Outcome Lengths → Type 0
-BoundedAnswer (Reading.done n) = Bounded n
-BoundedAnswer (Reading.refused e) = Unit {0}
+BoundedAnswer : Refusals.Result Lengths → Type 0
+BoundedAnswer (Refusals.done n) = Bounded n
+BoundedAnswer (Refusals.refused e) = Unit {0}
 
 bounded-put : (t : Bool) (c : Claimed) (a b : List ℕ) → ClaimWithin c
-    → BoundedAnswer ((pick {A = BothDelivered} t (record { answer = Reading.done (record { dimensions = c .dimensions; left = length (encode Faces (c .left)); right = length (encode Faces (c .right)) }); left = sets a 0 (encode Faces (c .left)); right = sets b 0 (encode Faces (c .right)) }) (record { answer = Reading.refused short-output; left = a; right = b })) .answer)
+    → BoundedAnswer ((pick {A = BothDelivered} t (record { answer = Refusals.done (record { dimensions = c .dimensions; left = length (encode Faces (c .left)); right = length (encode Faces (c .right)) }); left = sets a 0 (encode Faces (c .left)); right = sets b 0 (encode Faces (c .right)) }) (record { answer = Refusals.refused ShortOutput; left = a; right = b })) .answer)
 unfolding BoundedAnswer
 bounded-put true c a b h = record { dimensions = omega (arith, h .0); left = omega (arith, tree-short Faces (c .left) (h .1 .0)); right = omega (arith, tree-short Faces (c .right) (h .2 .0)) }
 bounded-put false c a b h = tt
 
-bounded-claim : (l a b : List ℕ) (o : Reading.Outcome Claimed) → readClaim l ≡ o → BoundedAnswer ((bothDelivered o a b) .answer)
+bounded-claim : (l a b : List ℕ) (o : Refusals.Result Claimed) → readClaim l ≡ o → BoundedAnswer ((bothDelivered o a b) .answer)
 unfolding BoundedAnswer
-bounded-claim l a b (Reading.refused e) p = tt
-bounded-claim l a b (Reading.done c) p = bounded-put (leb (length (encode Faces (c .left))) (length a) && leb (length (encode Faces (c .right))) (length b)) c a b (claim-read l c p .1)
+bounded-claim l a b (Refusals.refused e) p = tt
+bounded-claim l a b (Refusals.done c) p = bounded-put (leb (length (encode Faces (c .left))) (length a) && leb (length (encode Faces (c .right))) (length b)) c a b (claim-read l c p .1)
 
 pub claim-fits : {l a b a′ b′ : List ℕ} {r : Claim} → ReadsClaim l a b r a′ b′ → ClaimFits r
 unfolding BoundedAnswer
 claim-fits {l} {a} {b} h =
     record {
       fits = λ d x y e.
-          let k : BoundedAnswer (Reading.done (record { dimensions = d; left = x; right = y })) = subst BoundedAnswer (ap (λ (z : BothDelivered). z .answer) (h .equal) ∙ ap saidClaim e) (bounded-claim l a b (readClaim l) refl) in
+          let k : BoundedAnswer (Refusals.done (record { dimensions = d; left = x; right = y })) = subst BoundedAnswer (ap (λ (z : BothDelivered). z .answer) (h .equal) ∙ ap saidClaim e) (bounded-claim l a b (readClaim l) refl) in
           (k .dimensions, k .left, k .right);
     }

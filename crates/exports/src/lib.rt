@@ -6,23 +6,24 @@ ghost use Rattle.calculus.specs.Parse.{readLedger};
 ghost use Rattle.calculus.specs.Door.{reply, face as faceCall, interval as intervalCall, boundary as boundaryCall, endpoint as endpointCall, forall as forallCall, shift as shiftCall, substitute as substituteCall, entails as entailsCall};
 ghost use Rattle.calculus.specs.Desk.{DeskGives};
 ghost use Rattle.kinds.specs.Kinds.{nameBytes};
-ghost use Rattle.ledger.specs.Checks.{counted};
+ghost use Rattle.ledger.specs.Checks.{stepCount};
 ghost use Rattle.ledger.specs.Ledger.{stepsOf};
 ghost use Rattle.lookup.specs.Lookup.{operandsStart, operandsLength, kindOf, referenceOf};
 ghost use Rattle.formula.specs.Bytes.{encode, readAll};
-ghost use Rattle.text.specs.Reading.{done, map, readFormula, readClaim};
+ghost use Rattle.refusals.specs.Refusals.{done, map};
+ghost use Rattle.text.specs.Reading.{readFormula, readClaim};
 ghost use Rattle.text.specs.Answers.{delivered, bothDelivered};
 ghost use Rattle.writing.specs.Answers.{written};
 ghost use Rattle.listing.specs.Answers.{lineOf};
 ghost use Rattle.normal.specs.Answers.{normalOf};
 ghost use Rattle.claims.specs.Facesteps.{facesteps};
 ghost use Rattle.repeat_test.specs.Repeats.{repeatTest};
-ghost use Rattle.numbers.specs.Answers.{stepsNumber, deskNumber, repeatNumber, partNumber, Numbers, Reads, ReadsBoth, isOne};
+ghost use Rattle.numbers.specs.Answers.{countNumber, deskNumber, repeatNumber, partNumber, Numbers, Reads, ReadsBoth, isOne};
 
 // How many steps the ledger has, or refusal 1.
 #[no_mangle]
 pub extern "C" fn lf_well_formed(ledger: &[u8]) -> u64
-    ensures { λ r. ⌜ r ≡ stepsNumber (counted (readLedger (now (ledger .entry)))) ⌝ }
+    ensures { λ r. ⌜ r ≡ countNumber (stepCount (readLedger (now (ledger .entry)))) ⌝ }
 {
     numbers::checked(ledger::well_formed(ledger))
 }

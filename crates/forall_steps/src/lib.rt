@@ -1,7 +1,7 @@
 // The forall judgements of a face, beside the bytes of the result.
+use formula::Advance;
 use formula::Place;
 use formula::Sort;
-use formula::Step;
 use steps::Paired;
 use steps::Ran;
 ghost use mathlib.Core.Path.{_≡_};
@@ -115,11 +115,11 @@ fn forall_at(
     let at = p.at;
     let from = q.at;
     match p.step(Sort::Faces, f) {
-        Step::Leaf(e) => {
+        Advance::Leaf(e) => {
             let w = steps::over(Sort::Faces, out, q);
             forall_end(l, ix, f, at, e, k, out, from, w, 0, 0)
         }
-        Step::Lit(e, n) => {
+        Advance::Lit(e, n) => {
             let w = steps::over(Sort::Faces, out, q);
             let x = steps::between(f, at, e);
             Paired {
@@ -128,8 +128,8 @@ fn forall_at(
                 image: w,
             }
         }
-        Step::One(_) => steps::nowhere(p, q),
-        Step::Two(e) => {
+        Advance::One(_) => steps::nowhere(p, q),
+        Advance::Two(e) => {
             let a = forall_at(l, ix, f, e, k, out, steps::inside(out, q));
             let left = a.ran;
             if !steps::is_done(left) {
@@ -144,7 +144,7 @@ fn forall_at(
             let j = steps::step_of(right);
             forall_end(l, ix, f, at, b.place, k, out, from, b.image, i, j)
         }
-        Step::Stuck => steps::nowhere(p, q),
+        Advance::Stuck => steps::nowhere(p, q),
     }
 }
 

@@ -21,19 +21,19 @@ compare-gt (suc n) zero h = compare·suc-zero n
 compare-gt (suc n) (suc k) h = compare·suc-suc n k ∙ compare-gt n k (omega arith)
 
 -- What an answer of the comparison says of the two numbers.
-abbrev pub Stands : Ordering → ℕ → ℕ → Type 0
-Stands Ordering·lt n k = n < k
-Stands Ordering·eq n k = n ≡ k
-Stands Ordering·gt n k = k < n
+abbrev pub Compares : Ordering → ℕ → ℕ → Type 0
+Compares Ordering·lt n k = n < k
+Compares Ordering·eq n k = n ≡ k
+Compares Ordering·gt n k = k < n
 
 -- The comparison says what is so.
-pub stands : (n k : ℕ) → Stands (compare n k) n k
+pub stands : (n k : ℕ) → Compares (compare n k) n k
 stands zero zero = refl
 stands zero (suc k) = rw compare·zero-suc (omega arith)
 stands (suc n) zero = rw compare·suc-zero (omega arith)
 stands (suc n) (suc k) = rw compare·suc-suc (up (compare n k) (stands n k))
   where
-    up : (o : Ordering) → Stands o n k → Stands o (suc n) (suc k)
+    up : (o : Ordering) → Compares o n k → Compares o (suc n) (suc k)
     up Ordering·lt h = omega arith
     up Ordering·eq h = omega arith
     up Ordering·gt h = omega arith

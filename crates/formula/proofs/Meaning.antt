@@ -6,7 +6,7 @@ use Prim.Native.Nat.{ℕ, suc, pred, _<_, compare, Ordering, Ordering·lt, Order
 use native.Mathlib.Omega.{arith}
 use Rattle.formula.specs.Formula.{End, lo, hi, other, Face, ff, ft, at, fand, for, Interval, i0, i1, dim, neg, meet, join, Val, v0, v1, vu, Assignment, negV, meetV, joinV, value, is, holds, Entails, beside, insert, raised, remove}
 use Rattle.formula.specs.Operations.{boundary, forall, Op, shift, subst, dimTo, itransform, ftransform, change}
-use Rattle.formula.proofs.Compare.{compare-lt, compare-eq, compare-gt, Stands, stands}
+use Rattle.formula.proofs.Compare.{compare-lt, compare-eq, compare-gt, Compares, stands}
 
 -- What is asked of two parts: either at lo, both at hi.
 abbrev gate : End → Bool → Bool → Bool
@@ -204,7 +204,7 @@ value-monotone r σ τ l =
 pub remove-insert : (k : ℕ) (v : Val) (σ : Assignment) → remove k (insert k v σ) ≡ σ
 remove-insert k v σ = fun-ext λ n. go n (compare n k) (stands n k)
   where
-    go : (n : ℕ) (o : Ordering) → Stands o n k → insert k v σ (beside o n (suc n) (suc n)) ≡ σ n
+    go : (n : ℕ) (o : Ordering) → Compares o n k → insert k v σ (beside o n (suc n) (suc n)) ≡ σ n
     go n Ordering·lt h = rw compare-lt
     go n Ordering·eq h = rw (compare-gt (suc n) k (omega arith))
     go n Ordering·gt h = rw (compare-gt (suc n) k (omega arith))
@@ -213,7 +213,7 @@ remove-insert k v σ = fun-ext λ n. go n (compare n k) (stands n k)
 pub raised-pred : (k n : ℕ) → k < n → raised k (pred n) ≡ n
 raised-pred k n l = go (compare (pred n) k) (stands (pred n) k)
   where
-    go : (o : Ordering) → Stands o (pred n) k → beside o (pred n) (suc (pred n)) (suc (pred n)) ≡ n
+    go : (o : Ordering) → Compares o (pred n) k → beside o (pred n) (suc (pred n)) (suc (pred n)) ≡ n
     go Ordering·lt h = absurd (omega arith)
     go Ordering·eq h = omega arith
     go Ordering·gt h = omega arith
@@ -222,7 +222,7 @@ raised-pred k n l = go (compare (pred n) k) (stands (pred n) k)
 pub insert-remove-below : (k : ℕ) (σ : Assignment) → LessDetermined (insert k vu (remove k σ)) σ
 insert-remove-below k σ n = go (compare n k) (stands n k)
   where
-    go : (o : Ordering) → Stands o n k → Below (beside o (σ (beside o n (suc n) (suc n))) vu (σ (raised k (pred n)))) (σ n)
+    go : (o : Ordering) → Compares o n k → Below (beside o (σ (beside o n (suc n) (suc n))) vu (σ (raised k (pred n)))) (σ n)
     go Ordering·lt h = same
     go Ordering·eq h = undetermined
     go Ordering·gt h = rw (raised-pred k n h) same

@@ -11,8 +11,8 @@ use Rattle.formula.specs.Bytes.{Node, leaf, lit, one, two, bad, from16, 
 use Rattle.formula.specs.Answers.{pick, stepBy, stepOf, literalStep, kindBy, kindOf}
 use Rattle.formula.specs.declared.Sort.{Sort}
 use Rattle.formula.specs.declared.Sort.the-variants.{Faces, Intervals}
-use Rattle.formula.specs.declared.Step.{Step}
-use Rattle.formula.specs.declared.Step.the-variants.{Leaf, One, Two, Stuck}
+use Rattle.formula.specs.declared.Advance.{Advance}
+use Rattle.formula.specs.declared.Advance.the-variants.{Leaf, One, Two, Stuck}
 use Rattle.formula.specs.declared.Kind.{Kind}
 use Rattle.formula.specs.declared.Kind.the-variants.{Nullary, Literal, Unary, Binary, Unknown}
 
@@ -56,7 +56,7 @@ interval-limits b = go (ltb b 16) refl
         interval-limits-from (b - 16) ∙ ap (byLimits ((18, Nullary) ∷ (19, Literal) ∷ (20, Unary) ∷ (22, Binary) ∷ [])) p
 
 -- a step by the kind alone
-abbrev pub stepKind : Kind → List ℕ → ℕ → ℕ → Step
+abbrev pub stepKind : Kind → List ℕ → ℕ → ℕ → Advance
 stepKind Nullary l at p = Leaf (record { at = at + 1; pending = p - 1 })
 stepKind Literal l at p = literalStep l (at + 1) (p - 1)
 stepKind Unary l at p = One (record { at = at + 1; pending = p })

@@ -11,15 +11,15 @@ use lib.ListN.{length, getD, take, drop, length-append, length-drop, drop-of-len
 use lib.Seq.{drop-cons, take-at}
 use borrow.Author.Tests.{le-leb, leb-true, leb-false, eq-eqb, ne-eqb}
 use Rattle.formula.specs.Bytes.{Tree, dimWidth, dimAt, encode, Node, leaf, lit, one, two, bad, nodeOf, Got, nothing, got, then, takeDim, front, read, wholly, readAll, nodes, bound}
-use Rattle.formula.specs.Answers.{pick, stepBy, stepOf, kindOf, measuredAs, measured, frontSize, measuredAt, bytesOf, partAt}
+use Rattle.formula.specs.Answers.{pick, stepBy, stepOf, kindOf, sizeRead, measurement, sizeFront, measurementAt, bytesOf, partAt}
 use Rattle.formula.specs.Walks.{counted, turnOf, readRow, overTree, passed, finish, walkedAt}
 use Rattle.formula.specs.declared.Sort.{Sort}
 use Rattle.formula.specs.declared.Size.{Size}
 use Rattle.formula.specs.declared.Kind.{Kind}
-use Rattle.formula.specs.declared.Measured.{Measured}
-use Rattle.formula.specs.declared.Measured.the-variants.{Formula, Ill}
-use Rattle.formula.specs.declared.Step.{Step}
-use Rattle.formula.specs.declared.Step.the-variants.{Leaf, Lit, One, Two, Stuck}
+use Rattle.refusals.specs.declared.Refusal.the-variants.{NotAFormula}
+use Rattle.refusals.specs.Refusals.{Result, refused, done}
+use Rattle.formula.specs.declared.Advance.{Advance}
+use Rattle.formula.specs.declared.Advance.the-variants.{Leaf, Lit, One, Two, Stuck}
 use Rattle.formula.specs.declared.walk.Walk.{Walk}
 use Rattle.formula.specs.declared.walk.Turn.{Turn}
 use Rattle.formula.specs.declared.walk.Turn.the-variants.{On, Broken}
@@ -174,7 +174,7 @@ module _ (s : Sort) where
   turn-few : (l : List ℕ) (w : Walk) → 1 ≤ w .pending → length l - w .at < w .pending → finish s w (readRow s (w .pending) (drop (w .at) l)) ≡ after l (turnOf s l w)
   turn-few l w h g =
       ap (finish s w) (row-few (w .pending) (drop (w .at) l) (omega (arith, length-drop (w .at) l)))
-      ∙ sym (ap (λ (x : Step). after l (counted w x)) (step-few s l (w .at) (w .pending) h g))
+      ∙ sym (ap (λ (x : Advance). after l (counted w x)) (step-few s l (w .at) (w .pending) h g))
 
   -- what is left to read ends where it ends after the turn
   pub turn-law : (l : List ℕ) (w : Walk) → 1 ≤ w .pending → finish s w (readRow s (w .pending) (drop (w .at) l)) ≡ after l (turnOf s l w)
@@ -206,7 +206,7 @@ module _ (s : Sort) where
     -- a turn by the kind of the node
     module _ (i : w .pending ≤ length l - w .at) (k : Kind) (e : k ≡ kindOf s (getD l (w .at) 0)) where
       turned : after l (counted w (stepKind k l (w .at) (w .pending))) ≡ walkedAt s l start
-      turned = sym (ap (λ (x : Step). after l (counted w x)) (step-in s l (w .at) (w .pending) h i k e)) ∙ sym (turn-law l w h) ∙ g .ends
+      turned = sym (ap (λ (x : Advance). after l (counted w x)) (step-in s l (w .at) (w .pending) h i k e)) ∙ sym (turn-law l w h) ∙ g .ends
 
       pub walking-broken : counted w (stepKind k l (w .at) (w .pending)) ≡ Broken → Broken ≡ walkedAt s l start
       walking-broken f = sym (ap (after l) f) ∙ turned
@@ -219,35 +219,35 @@ module _ (s : Sort) where
   finish-zero w l e = ap (λ (n : ℕ). finish s w (readRow s n l)) e
 
   -- the whole list is one formula where the walk ends at the list's end
-  abbrev pub judge : List ℕ → Turn → Measured
-  judge l Broken = Ill
-  judge l (On w) = pick (eqb (w .at) (length l)) (Formula (record { len = w .at; nodes = w .nodes; bound = w .bound })) Ill
+  abbrev pub judge : List ℕ → Turn → Result Size
+  judge l Broken = refused NotAFormula
+  judge l (On w) = pick (eqb (w .at) (length l)) (done (record { len = w .at; nodes = w .nodes; bound = w .bound })) (refused NotAFormula)
 
-  pub measure-law : (l : List ℕ) → measured s l ≡ judge l (walkedAt s l 0)
-  unfolding measured readAll walkedAt readRow passed
+  pub measure-law : (l : List ℕ) → measurement s l ≡ judge l (walkedAt s l 0)
+  unfolding measurement readAll walkedAt readRow passed
   measure-law l = go (read s l) refl
     where
-      go : (r : Got (Tree s)) → read s l ≡ r → measuredAs s (wholly r) ≡ judge l (finish s (record { at = 0; pending = 1; nodes = 0; bound = 0 }) (then r (λ t m. got (t ∷ []) m)))
+      go : (r : Got (Tree s)) → read s l ≡ r → sizeRead s (wholly r) ≡ judge l (finish s (record { at = 0; pending = 1; nodes = 0; bound = 0 }) (then r (λ t m. got (t ∷ []) m)))
       go nothing e = refl
       go (got t []) e =
           let h : 0 + length (encode s t) ≡ length l = omega (arith, simp length-append at (ap length (encode-read s l t [] e))) in
-          rw (eq-eqb (0 + length (encode s t)) (length l) h) (ap Formula (size-eq (omega arith) (omega arith) (omega arith)))
+          rw (eq-eqb (0 + length (encode s t)) (length l) h) (ap done (size-eq (omega arith) (omega arith) (omega arith)))
       go (got t (b ∷ m)) e =
           let h : 0 + length (encode s t) ≡ length l → ⊥ = λ i. omega (arith, simp length-append at (ap length (encode-read s l t (b ∷ m) e))) in
           rw (ne-eqb (0 + length (encode s t)) (length l) h)
 
   -- the size of the formula that the walk passed over
-  abbrev pub sizeFrom : ℕ → Turn → Measured
-  sizeFrom at Broken = Ill
-  sizeFrom at (On w) = Formula (record { len = w .at - at; nodes = w .nodes; bound = w .bound })
+  abbrev pub sizeFrom : ℕ → Turn → Result Size
+  sizeFrom at Broken = refused NotAFormula
+  sizeFrom at (On w) = done (record { len = w .at - at; nodes = w .nodes; bound = w .bound })
 
-  pub measure-at-law : (l : List ℕ) (at : ℕ) → measuredAt s l at ≡ sizeFrom at (walkedAt s l at)
-  unfolding measuredAt walkedAt readRow passed
+  pub measure-at-law : (l : List ℕ) (at : ℕ) → measurementAt s l at ≡ sizeFrom at (walkedAt s l at)
+  unfolding measurementAt walkedAt readRow passed
   measure-at-law l at = go (read s (drop at l))
     where
-      go : (r : Got (Tree s)) → frontSize s r ≡ sizeFrom at (finish s (record { at = at; pending = 1; nodes = 0; bound = 0 }) (then r (λ t m. got (t ∷ []) m)))
+      go : (r : Got (Tree s)) → sizeFront s r ≡ sizeFrom at (finish s (record { at = at; pending = 1; nodes = 0; bound = 0 }) (then r (λ t m. got (t ∷ []) m)))
       go nothing = refl
-      go (got t m) = ap Formula (size-eq (omega arith) (omega arith) (omega arith))
+      go (got t m) = ap done (size-eq (omega arith) (omega arith) (omega arith))
 
   -- the part of the list that the walk passed over
   abbrev pub Part : List ℕ → ℕ → List ℕ → Turn → Type 0
@@ -270,7 +270,7 @@ module _ (s : Sort) where
   part-as l at r e = subst (Part l at (partAt s l at)) e (part-law l at)
 
 -- a step goes forward, within the list; a literal's dimension is that of its field
-abbrev pub Moves : List ℕ → ℕ → Step → Type 0
+abbrev pub Moves : List ℕ → ℕ → Advance → Type 0
 Moves l at (Leaf q) = (at < q .at) × (q .at ≤ length l)
 Moves l at (Lit q n) = (at < q .at) × (q .at ≤ length l) × (n ≡ dimAt l (at + 1))
 Moves l at (One q) = (at < q .at) × (q .at ≤ length l)
@@ -300,7 +300,7 @@ abbrev pub Advances : List ℕ → Walk → Turn → Type 0
 Advances l w Broken = Unit {0}
 Advances l w (On v) = (w .at < v .at) × (v .at ≤ length l) × (v .nodes ≡ w .nodes + 1)
 
-advances-step : (l : List ℕ) (w : Walk) (x : Step) → Moves l (w .at) x → Advances l w (counted w x)
+advances-step : (l : List ℕ) (w : Walk) (x : Advance) → Moves l (w .at) x → Advances l w (counted w x)
 advances-step l w (Leaf q) h = (h .0, h .1, refl)
 advances-step l w (Lit q n) h = (h .0, h .1, refl)
 advances-step l w (One q) h = (h .0, h .1, refl)

@@ -7,6 +7,8 @@ use mathlib.Core.List.{List, [], _∷_}
 use lib.Dec.{leb, eqb}
 use lib.ListN.{length, getD, drop}
 use lib.Seq.{sets}
+use Rattle.refusals.specs.declared.Refusal.the-variants.{NotAFormula}
+use Rattle.refusals.specs.Refusals.{Result, refused, done}
 use Rattle.formula.specs.Formula.{ff, i0}
 use Rattle.formula.specs.Bytes.{Tree, dimWidth, dimAt, encode, Node, leaf, lit, one, two, bad, nodeOf, Got, nothing, got, read, readAll, nodes, bound, maxNodes, maxBound}
 use Rattle.formula.specs.declared.Sort.{Sort}
@@ -16,8 +18,8 @@ use Rattle.formula.specs.declared.Kind.{Kind}
 use Rattle.formula.specs.declared.Kind.the-variants.{Nullary, Literal, Unary, Binary, Unknown}
 use Rattle.formula.specs.declared.Measured.{Measured}
 use Rattle.formula.specs.declared.Measured.the-variants.{Formula, Ill}
-use Rattle.formula.specs.declared.Step.{Step}
-use Rattle.formula.specs.declared.Step.the-variants.{Leaf, Lit, One, Two, Stuck}
+use Rattle.formula.specs.declared.Advance.{Advance}
+use Rattle.formula.specs.declared.Advance.the-variants.{Leaf, Lit, One, Two, Stuck}
 
 -- The first where the test passes, else the second.
 abbrev pub pick : {A : Type 0} → Bool → A → A → A
@@ -41,10 +43,10 @@ abbrev pub dimSpace : ℕ
 dimSpace = 256
 
 -- One step over a node, by the node of the kind byte; a literal's field has to be whole.
-abbrev pub literalStep : List ℕ → ℕ → ℕ → Step
+abbrev pub literalStep : List ℕ → ℕ → ℕ → Advance
 literalStep l at p = pick (leb dimWidth (length l - at)) (Lit (record { at = at + dimWidth; pending = p }) (dimAt l at)) Stuck
 
-abbrev pub stepBy : {A : Type 0} → Node A → List ℕ → ℕ → ℕ → Step
+abbrev pub stepBy : {A : Type 0} → Node A → List ℕ → ℕ → ℕ → Advance
 stepBy (leaf t) l at p = Leaf (record { at = at + 1; pending = p - 1 })
 stepBy (lit g) l at p = literalStep l (at + 1) (p - 1)
 stepBy (one u) l at p = One (record { at = at + 1; pending = p })
@@ -52,20 +54,25 @@ stepBy (two v) l at p = Two (record { at = at + 1; pending = p + 1 })
 stepBy bad l at p = Stuck
 
 -- A step from a place where p formulas are pending, with a byte or more for each.
-abbrev pub stepOf : Sort → List ℕ → ℕ → ℕ → Step
+abbrev pub stepOf : Sort → List ℕ → ℕ → ℕ → Advance
 stepOf s l at p = pick (leb 1 p && leb p (length l - at)) (stepBy (nodeOf s (getD l at 0)) l at p) Stuck
 
 -- The size of a formula.
 abbrev pub sizeOf : (s : Sort) → Tree s → Size
 sizeOf s t = record { len = length (encode s t); nodes = nodes s t; bound = bound s t }
 
-abbrev pub measuredAs : (s : Sort) → Option (Tree s) → Measured
-measuredAs s none = Ill
-measuredAs s (some t) = Formula (sizeOf s t)
+-- What each answer of a measurement says.
+abbrev pub saidMeasured : Measured → Result Size
+saidMeasured (Formula z) = done z
+saidMeasured Ill = refused NotAFormula
 
--- The size of the one formula that the whole list is.
-unfoldable pub measured : Sort → List ℕ → Measured
-measured s l = measuredAs s (readAll s l)
+-- The size of the one formula that the whole list is, or refusal 2.
+abbrev pub sizeRead : (s : Sort) → Option (Tree s) → Result Size
+sizeRead s none = refused NotAFormula
+sizeRead s (some t) = done (sizeOf s t)
+
+unfoldable pub measurement : Sort → List ℕ → Result Size
+measurement s l = sizeRead s (readAll s l)
 
 -- For the crates above: some formula of the sort, and the formula that the whole list is, or that one where it is none.
 abbrev pub anyTree : (s : Sort) → Tree s
@@ -75,13 +82,13 @@ anyTree Intervals = i0
 unfoldable pub treeOf : (s : Sort) → List ℕ → Tree s
 treeOf s l = Option·getD (readAll s l) (anyTree s)
 
-abbrev pub frontSize : (s : Sort) → Got (Tree s) → Measured
-frontSize s nothing = Ill
-frontSize s (got t l) = Formula (sizeOf s t)
+-- The size of the formula that starts at a place, or refusal 2.
+abbrev pub sizeFront : (s : Sort) → Got (Tree s) → Result Size
+sizeFront s nothing = refused NotAFormula
+sizeFront s (got t l) = done (sizeOf s t)
 
--- The size of the formula that starts at a place.
-unfoldable pub measuredAt : Sort → List ℕ → ℕ → Measured
-measuredAt s l at = frontSize s (read s (drop at l))
+unfoldable pub measurementAt : Sort → List ℕ → ℕ → Result Size
+measurementAt s l at = sizeFront s (read s (drop at l))
 
 abbrev pub bytesOf : (s : Sort) → Got (Tree s) → List ℕ
 bytesOf s nothing = []

@@ -6,14 +6,14 @@ use lib.ListN.{length, drop}
 use Rattle.formula.specs.Bytes.{Tree, encode, Got, nothing, got, then, read, nodes, bound}
 use Rattle.formula.specs.Answers.{stepOf}
 use Rattle.formula.specs.declared.Sort.{Sort}
-use Rattle.formula.specs.declared.Step.{Step}
-use Rattle.formula.specs.declared.Step.the-variants.{Leaf, Lit, One, Two, Stuck}
+use Rattle.formula.specs.declared.Advance.{Advance}
+use Rattle.formula.specs.declared.Advance.the-variants.{Leaf, Lit, One, Two, Stuck}
 use Rattle.formula.specs.declared.walk.Walk.{Walk}
 use Rattle.formula.specs.declared.walk.Turn.{Turn}
 use Rattle.formula.specs.declared.walk.Turn.the-variants.{On, Broken}
 
 -- a step counted
-abbrev pub counted : Walk → Step → Turn
+abbrev pub counted : Walk → Advance → Turn
 counted w (Leaf q) = On (record { at = q .at; pending = q .pending; nodes = w .nodes + 1; bound = w .bound })
 counted w (Lit q n) = On (record { at = q .at; pending = q .pending; nodes = w .nodes + 1; bound = max (w .bound) (n + 1) })
 counted w (One q) = On (record { at = q .at; pending = q .pending; nodes = w .nodes + 1; bound = w .bound })

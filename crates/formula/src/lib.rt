@@ -40,7 +40,7 @@ pub struct Size {
     pub bound: usize,
 }
 
-// What a slice is found to be: exactly one formula, or not.
+// What a slice is found to be: exactly one formula, or not (refusal 2).
 pub enum Measured {
     Formula(Size),
     Ill,
@@ -53,7 +53,7 @@ pub struct Place {
 }
 
 // One node further: the node's kind, a literal's dimension, and the place behind it.
-pub enum Step {
+pub enum Advance {
     Leaf(Place),
     Lit(Place, usize),
     One(Place),
@@ -70,33 +70,33 @@ impl Place {
     }
 
     // Over one node of a formula of the sort. Each pending formula takes a byte or more, so too few bytes lead nowhere.
-    pub fn step(self, sort: Sort, s: &[u8]) -> Step
+    pub fn step(self, sort: Sort, s: &[u8]) -> Advance
         ensures { λ r. ⌜ r ≡ stepOf sort (now (s .entry)) (self .at) (self .pending) ⌝ }
     {
         let at = self.at;
         let pending = self.pending;
         if pending == 0 {
-            return Step::Stuck;
+            return Advance::Stuck;
         }
         if s.len() < at {
-            return Step::Stuck;
+            return Advance::Stuck;
         }
         if s.len() - at < pending {
-            return Step::Stuck;
+            return Advance::Stuck;
         }
         let next = at + 1;
         match node::kind_of(sort, s[at]) {
-            Kind::Nullary => Step::Leaf(Place {
+            Kind::Nullary => Advance::Leaf(Place {
                 at: next,
                 pending: pending - 1,
             }),
             Kind::Literal => node::literal_step(s, next, pending - 1),
-            Kind::Unary => Step::One(Place { at: next, pending }),
-            Kind::Binary => Step::Two(Place {
+            Kind::Unary => Advance::One(Place { at: next, pending }),
+            Kind::Binary => Advance::Two(Place {
                 at: next,
                 pending: pending + 1,
             }),
-            Kind::Unknown => Step::Stuck,
+            Kind::Unknown => Advance::Stuck,
         }
     }
 }

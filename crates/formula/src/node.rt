@@ -1,8 +1,8 @@
 // Single nodes: what a kind byte is, and the field of a dimension.
+use crate::Advance;
 use crate::Kind;
 use crate::Place;
 use crate::Sort;
-use crate::Step;
 ghost use mathlib.Core.Path.{_≡_};
 ghost use Prim.Native.Nat.{_+_, _≤_, _<_};
 ghost use lib.ListN.{length};
@@ -76,15 +76,15 @@ pub fn put_dim(out: &mut [u8], at: usize, n: usize)
 }
 
 // Behind a literal's kind byte: its dimension, where the field is whole.
-pub(crate) fn literal_step(s: &[u8], at: usize, pending: usize) -> Step
+pub(crate) fn literal_step(s: &[u8], at: usize, pending: usize) -> Advance
     requires { ⌜ at ≤ length (now s) ⌝ }
     ensures { λ r. ⌜ r ≡ literalStep (now (s .entry)) at pending ⌝ }
 {
     if s.len() - at < DIM {
-        return Step::Stuck;
+        return Advance::Stuck;
     }
     let n = dim_at(s, at);
-    Step::Lit(
+    Advance::Lit(
         Place {
             at: at + DIM,
             pending,

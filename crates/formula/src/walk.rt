@@ -8,7 +8,7 @@ use crate::node::DIM;
 ghost use mathlib.Core.Path.{_≡_};
 ghost use Prim.Native.Nat.{max};
 ghost use lib.ListN.{length};
-ghost use Rattle.formula.specs.Answers.{keeps, measured, measuredAt, partAt};
+ghost use Rattle.formula.specs.Answers.{keeps, saidMeasured, measurement, measurementAt, partAt};
 ghost use Rattle.formula.specs.Walks.{walkedAt};
 
 // How far a walk has come, and what it has counted.
@@ -76,7 +76,7 @@ fn walk_from(sort: Sort, s: &[u8], at: usize) -> Turn
 
 // The size of the formula, exactly where the whole slice is one of the sort.
 pub fn measure(sort: Sort, s: &[u8]) -> Measured
-    ensures { λ r. ⌜ r ≡ measured sort (now (s .entry)) ⌝ }
+    ensures { λ r. ⌜ saidMeasured r ≡ measurement sort (now (s .entry)) ⌝ }
 {
     match walk_from(sort, s, 0) {
         Turn::On(w) => {
@@ -96,7 +96,7 @@ pub fn measure(sort: Sort, s: &[u8]) -> Measured
 
 // The size of the one formula of the sort that starts at `at`.
 pub fn measure_at(sort: Sort, s: &[u8], at: usize) -> Measured
-    ensures { λ r. ⌜ r ≡ measuredAt sort (now (s .entry)) at ⌝ }
+    ensures { λ r. ⌜ saidMeasured r ≡ measurementAt sort (now (s .entry)) at ⌝ }
 {
     match walk_from(sort, s, at) {
         Turn::On(w) => {

@@ -9,22 +9,23 @@ use Rattle.formula.specs.Formula.{Face}
 use Rattle.formula.specs.Bytes.{Tree, nodes, bound, maxNodes, maxBound}
 use Rattle.text.specs.Tokens.{Token, word, tokens}
 use Rattle.text.specs.Grammar.{Formula, Claim, entails}
-use Rattle.text.specs.Reading.{Item, formula, number, claim, Values, Outcome, refused, done, map, run, readFormula, Claimed, readClaim}
+use Rattle.refusals.specs.Refusals.{Result, refused, done, map}
+use Rattle.text.specs.Reading.{Item, formula, number, claim, Values, run, readFormula, Claimed, readClaim}
 use Rattle.grammar.proofs.Advancing.{Follows, Left, Fits, Cost, free, node, succ, anew, spend, for-free, for-node, for-succ, for-anew, Paid, spend-paid, Back, Advances, goes, stuck, advances, nothing-follows}
 
 -- What is done was done below a function.
 done-one : {A : Type 0} {x y : A} → done x ≡ done y → x ≡ y
 done-one e = cc
 
-not-done : {A B : Type 0} {e : _} {x : A} → _≡_ {A = Outcome A} (refused e) (done x) → B
+not-done : {A B : Type 0} {e : _} {x : A} → _≡_ {A = Result A} (refused e) (done x) → B
 not-done p = absurd (let z : _≡_ {A = ℕ} 0 1 = cc in omega arith)
 
-pub map-done : {A B : Type 0} (f : A → B) (o : Outcome A) {y : B} → map f o ≡ done y → Back f (λ x. o ≡ done x) y
+pub map-done : {A B : Type 0} (f : A → B) (o : Result A) {y : B} → map f o ≡ done y → Back f (λ x. o ≡ done x) y
 map-done f (refused e) p = not-done p
 map-done f (done x) p = record { value = x; holds = refl; gives = done-one p }
 
 -- What is done was paid for.
-pub spend-done : {A : Type 0} (c : Cost) (n : ℕ) (k : ℕ → Outcome A) {x : A} → spend c n k ≡ done x → Paid c n (λ m. k m ≡ done x)
+pub spend-done : {A : Type 0} (c : Cost) (n : ℕ) (k : ℕ → Result A) {x : A} → spend c n k ≡ done x → Paid c n (λ m. k m ≡ done x)
 spend-done free n k e = record { left = n; spends = for-free; then = e }
 spend-done node zero k e = not-done e
 spend-done node (suc n) k e = record { left = n; spends = for-node; then = e }

@@ -10,12 +10,13 @@ use Rattle.formula.specs.Answers.{pick, sameBytes}
 use Rattle.formula.proofs.Nodes.{made-as}
 use Rattle.formula.proofs.ByteLaws.{same-true, same-refl}
 use Rattle.calculus.specs.Table.{textBytes}
-use Rattle.calculus.specs.Refusal.{large-dimension, not-accepted}
+use Rattle.refusals.specs.declared.Refusal.the-variants.{LargeDimension, NotAccepted}
+use Rattle.refusals.specs.Refusals.{Result, refused, done, map}
 use Rattle.text.specs.Tokens
 use Rattle.text.specs.Tokens.{Token, opening, word}
 use Rattle.text.specs.Words.{kindNamed, nodeNamed, zero-word, succ-word, entails-word}
 use Rattle.text.specs.Grammar.{Number, bare-zero, zero-list, succ-list, Formula, bare-leaf, leaf-list, lit-list, one-list, two-list}
-use Rattle.text.specs.Reading.{Item, formula, part, partList, number, numberList, close, claim, Values, Outcome, refused, done, map, counted, bareNode, maxDim, listNode, succeeded, token, run}
+use Rattle.text.specs.Reading.{Item, formula, part, partList, number, numberList, close, claim, Values, counted, bareNode, maxDim, listNode, succeeded, token, run}
 
 -- What is expected, by the grammar and by the limits ---------------------------------------------------
 
@@ -60,10 +61,10 @@ pub data Cost : Type 0 where
   succ : ℕ → Cost
   anew : Cost → Cost
 
-abbrev pub spend : {A : Type 0} → Cost → ℕ → (ℕ → Outcome A) → Outcome A
+abbrev pub spend : {A : Type 0} → Cost → ℕ → (ℕ → Result A) → Result A
 spend free n k = k n
 spend node n k = counted n k
-spend (succ zero) n k = refused large-dimension
+spend (succ zero) n k = refused LargeDimension
 spend (succ (suc j)) n k = k n
 spend (anew c) n k = spend c maxNodes k
 
@@ -80,7 +81,7 @@ pub record Paid (c : Cost) (n : ℕ) (P : ℕ → Type 0) : Type 0 where
   pub spends : Spends c n left
   pub then : P left
 
-pub spend-paid : {A : Type 0} {c : Cost} {n m : ℕ} (k : ℕ → Outcome A) → Spends c n m → spend c n k ≡ k m
+pub spend-paid : {A : Type 0} {c : Cost} {n m : ℕ} (k : ℕ → Result A) → Spends c n m → spend c n k ≡ k m
 spend-paid k for-free = refl
 spend-paid k for-node = refl
 spend-paid k for-succ = refl
@@ -111,7 +112,7 @@ pub data Move : Item → Token → List Item → Cost → Type 0 where
   whole : {s : Sort} {x : Token} {adds : List Item} {c : Cost} → Move (part s) x adds c → Move (formula s) x adds (anew c)
 
 -- What is expected behind the token, in front of whatever is expected behind the item: `with` makes what was expected of what is read then.
-pub record Advance (i : Item) (x : Token) : Type 0 where
+pub record GoesOn (i : Item) (x : Token) : Type 0 where
   pub adds : List Item
   pub with : (K : List Item) → Values (adds ++ K) → Values (i ∷ K)
   pub cost : Cost
@@ -124,14 +125,14 @@ pub record Advance (i : Item) (x : Token) : Type 0 where
 
 -- No text goes on with the token.
 pub record Stuck (i : Item) (x : Token) : Type 0 where
-  pub refuses : (K : List Item) (n : ℕ) (ts : List Token) → token i x n K (run ts) ≡ refused not-accepted
+  pub refuses : (K : List Item) (n : ℕ) (ts : List Token) → token i x n K (run ts) ≡ refused NotAccepted
   pub nothing : (K : List Item) (ts : List Token) (v : Values (i ∷ K)) → Follows (i ∷ K) v (x ∷ ts) → ⊥
 
 pub data Advances (i : Item) (x : Token) : Type 0 where
-  goes : Advance i x → Advances i x
+  goes : GoesOn i x → Advances i x
   stuck : Stuck i x → Advances i x
 
-map-id : {A : Type 0} (o : Outcome A) → o ≡ map (λ u. u) o
+map-id : {A : Type 0} (o : Result A) → o ≡ map (λ u. u) o
 map-id (refused e) = refl
 map-id (done x) = refl
 
@@ -198,7 +199,7 @@ one-one e = cc
 two-one : {A : Type 0} {f g : A → A → A} → two f ≡ two g → f ≡ g
 two-one e = cc
 
-bare-other : {s : Sort} {w : List ℕ} {x : Node (Tree s)} → nodeNamed s w ≡ x → (nodeNumber x ≡ 0 → ⊥) → ((K : List Item) (n : ℕ) (ts : List Token) → bareNode x n K (run ts) ≡ refused not-accepted) → Stuck (part s) (word w)
+bare-other : {s : Sort} {w : List ℕ} {x : Node (Tree s)} → nodeNamed s w ≡ x → (nodeNumber x ≡ 0 → ⊥) → ((K : List Item) (n : ℕ) (ts : List Token) → bareNode x n K (run ts) ≡ refused NotAccepted) → Stuck (part s) (word w)
 unfolding nodeNumber
 bare-other {s} {w} p z r =
     record {
@@ -415,7 +416,7 @@ number-word k w true q =
       with = λ K u. (0, u);
       cost = free;
       move = bare-number z;
-      reads = λ K n ts. ap (λ b. pick b (map (λ v. (0, v)) (run ts n K)) (refused not-accepted)) q;
+      reads = λ K n ts. ap (λ b. pick b (map (λ v. (0, v)) (run ts n K)) (refused NotAccepted)) q;
       there = λ K ts u f. record { behind = ts; first = bare-zero z; second = f };
       back = λ K ts v f. let h = zero-is (f .first) in record { value = v .1; holds = subst (Follows K (v .1)) (h .2) (f .second); gives = ap (λ n. (n, v .1)) (h .1) };
       pays = λ K n u f. record { left = n; spends = for-free; then = f .1 };
@@ -424,7 +425,7 @@ number-word k w true q =
 number-word k w false q =
     stuck
     (record {
-      refuses = λ K n ts. ap (λ b. pick b (map (λ v. (0, v)) (run ts n K)) (refused not-accepted)) q;
+      refuses = λ K n ts. ap (λ b. pick b (map (λ v. (0, v)) (run ts n K)) (refused NotAccepted)) q;
       nothing = λ K ts v f. no-true (sym q ∙ same-word (zero-is (f .first) .0));
     })
 
@@ -459,8 +460,8 @@ succ-reads zero n K ts = refl
 succ-reads (suc k) n K ts = refl
 
 list-reads : (w : List ℕ) {b c : Bool} (k n : ℕ) (K : List Item) (ts : List Token) → sameBytes zero-word w ≡ b → sameBytes succ-word w ≡ c
-    → token (numberList k) (word w) n K (run ts) ≡ pick b (map (λ v. (0, v)) (run ts n (close ∷ K))) (pick c (succeeded k n K (run ts)) (refused not-accepted))
-list-reads w k n K ts p q = ap₂ (λ b c. pick b (map (λ v. (0, v)) (run ts n (close ∷ K))) (pick c (succeeded k n K (run ts)) (refused not-accepted))) p q
+    → token (numberList k) (word w) n K (run ts) ≡ pick b (map (λ v. (0, v)) (run ts n (close ∷ K))) (pick c (succeeded k n K (run ts)) (refused NotAccepted))
+list-reads w k n K ts p q = ap₂ (λ b c. pick b (map (λ v. (0, v)) (run ts n (close ∷ K))) (pick c (succeeded k n K (run ts)) (refused NotAccepted))) p q
 
 number-list-word : (k : ℕ) (w : List ℕ) (b c : Bool) → sameBytes zero-word w ≡ b → sameBytes succ-word w ≡ c → Advances (numberList k) (word w)
 number-list-word k w true c p q =
@@ -502,7 +503,7 @@ claim-word w true q =
       with = λ K u. u;
       cost = free;
       move = begins z;
-      reads = λ K n ts. ap (λ b. pick b (run ts n K) (refused not-accepted)) q ∙ map-id (run ts n K);
+      reads = λ K n ts. ap (λ b. pick b (run ts n K) (refused NotAccepted)) q ∙ map-id (run ts n K);
       there = λ K ts u f. record { behind = ts; first = ap (λ x. word x ∷ ts) z; second = f };
       back = λ K ts v f. record { value = v; holds = subst (Follows K v) (sym (tail-eq-of-cons-eq (f .first))) (f .second); gives = refl };
       pays = λ K n u f. record { left = n; spends = for-free; then = f };
@@ -511,7 +512,7 @@ claim-word w true q =
 claim-word w false q =
     stuck
     (record {
-      refuses = λ K n ts. ap (λ b. pick b (run ts n K) (refused not-accepted)) q;
+      refuses = λ K n ts. ap (λ b. pick b (run ts n K) (refused NotAccepted)) q;
       nothing = λ K ts v f. no-true (sym q ∙ same-word (word-one (head-eq-of-cons-eq (f .first))));
     })
 

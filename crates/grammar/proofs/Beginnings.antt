@@ -3,9 +3,9 @@ use Prim.Native.Nat.{ℕ}
 use native.Mathlib.Omega.{arith}
 use mathlib.Core.Path.{_≡_, refl, sym, ap, _∙_, subst}
 use mathlib.Core.List.{List, [], _∷_, _++_, head-eq-of-cons-eq, tail-eq-of-cons-eq, append-nil, append-assoc, append-eq-nil-iff}
-use Rattle.calculus.specs.Refusal.{Refusal}
+use Rattle.refusals.specs.declared.Refusal.{Refusal}
+use Rattle.refusals.specs.Refusals.{Result, refused, done, map}
 use Rattle.text.specs.Tokens.{Token}
-use Rattle.text.specs.Reading.{Outcome, refused, done, map}
 use Rattle.grammar.specs.Meeting.{Begins, Fine, Wrong, no-text, many, large, Kept, Met, at-token, at-end}
 
 -- Of two beginnings of the same tokens one begins the other.
@@ -93,30 +93,30 @@ met-whole (at-token P x us p k w) l h = wrong-fine w (l (P ++ x ∷ []) us (p �
 met-whole (at-end k n) l h = n h
 
 -- What an answer says of the tokens.
-pub data Verdict (W M B : List Token → Type 0) (ts : List Token) {A : Type 0} : Outcome A → Type 0 where
+pub data Verdict (W M B : List Token → Type 0) (ts : List Token) {A : Type 0} : Result A → Type 0 where
   refuses : {e : Refusal} → Met W M B ts e → Verdict W M B ts (refused e)
   accepts : {v : A} → Kept W M B ts → W ts → Verdict W M B ts (done v)
 
-pub verdict-map : {W M B : List Token → Type 0} {ts : List Token} {A C : Type 0} (f : A → C) {o : Outcome A} → Verdict W M B ts o → Verdict W M B ts (map f o)
+pub verdict-map : {W M B : List Token → Type 0} {ts : List Token} {A C : Type 0} (f : A → C) {o : Result A} → Verdict W M B ts o → Verdict W M B ts (map f o)
 verdict-map f (refuses h) = refuses h
 verdict-map f (accepts k h) = accepts k h
 
-refused-one : {A : Type 0} {e d : Refusal} → _≡_ {A = Outcome A} (refused e) (refused d) → e ≡ d
+refused-one : {A : Type 0} {e d : Refusal} → _≡_ {A = Result A} (refused e) (refused d) → e ≡ d
 refused-one p = cc
 
-not-refused : {A C : Type 0} {v : A} {e : Refusal} → _≡_ {A = Outcome A} (done v) (refused e) → C
+not-refused : {A C : Type 0} {v : A} {e : Refusal} → _≡_ {A = Result A} (done v) (refused e) → C
 not-refused p = absurd (let z : _≡_ {A = ℕ} 0 1 = cc in omega arith)
 
-pub verdict-met : {W M B : List Token → Type 0} {ts : List Token} {A : Type 0} {o : Outcome A} {e : Refusal} → Verdict W M B ts o → o ≡ refused e → Met W M B ts e
+pub verdict-met : {W M B : List Token → Type 0} {ts : List Token} {A : Type 0} {o : Result A} {e : Refusal} → Verdict W M B ts o → o ≡ refused e → Met W M B ts e
 verdict-met {W} {M} {B} {ts} (refuses h) p = subst (Met W M B ts) (refused-one p) h
 verdict-met (accepts k h) p = not-refused p
 
-pub met-verdict : {W M B : List Token → Type 0} {ts : List Token} {A : Type 0} {o : Outcome A} {e : Refusal} → Apart W M B → Verdict W M B ts o → Met W M B ts e → o ≡ refused e
+pub met-verdict : {W M B : List Token → Type 0} {ts : List Token} {A : Type 0} {o : Result A} {e : Refusal} → Apart W M B → Verdict W M B ts o → Met W M B ts e → o ≡ refused e
 met-verdict h (refuses v) m = ap refused (met-one h v m)
 met-verdict h (accepts k v) m = absurd (met-whole m k v)
 
 -- Nothing is wrong with no tokens.
-pub verdict-none : {W M B : List Token → Type 0} {ts : List Token} {A : Type 0} {o : Outcome A} → Verdict W M B ts o → Fine W M B []
+pub verdict-none : {W M B : List Token → Type 0} {ts : List Token} {A : Type 0} {o : Result A} → Verdict W M B ts o → Fine W M B []
 verdict-none (refuses (at-token P x us p k w)) = k [] P refl
 verdict-none {ts = ts} (refuses (at-end k n)) = k [] ts refl
 verdict-none {ts = ts} (accepts k h) = k [] ts refl
@@ -147,6 +147,6 @@ met-same : {W M B W′ M′ B′ : List Token → Type 0} → Same W M B W′ M�
 met-same s (at-token P x us p k w) = at-token P x us p (λ Q us q. fine-same s Q (k Q us q)) (wrong-same s (P ++ x ∷ []) w)
 met-same s {ts} (at-end k n) = at-end (λ Q us q. fine-same s Q (k Q us q)) (λ h. n (s .back ts h))
 
-pub verdict-same : {W M B W′ M′ B′ : List Token → Type 0} → Same W M B W′ M′ B′ → {ts : List Token} {A : Type 0} {o : Outcome A} → Verdict W M B ts o → Verdict W′ M′ B′ ts o
+pub verdict-same : {W M B W′ M′ B′ : List Token → Type 0} → Same W M B W′ M′ B′ → {ts : List Token} {A : Type 0} {o : Result A} → Verdict W M B ts o → Verdict W′ M′ B′ ts o
 verdict-same s (refuses h) = refuses (met-same s h)
 verdict-same s {ts} (accepts k h) = accepts (λ Q us q. fine-same s Q (k Q us q)) (s .there ts h)

@@ -1,9 +1,10 @@
 -- What is met first in one thing followed by another: in the first, or behind a text of it.
 use mathlib.Core.Path.{_≡_, refl, sym, ap, _∙_, subst}
 use mathlib.Core.List.{List, [], _∷_, _++_, head-eq-of-cons-eq, append-nil, append-assoc}
-use Rattle.calculus.specs.Refusal.{Refusal, too-many-nodes, large-dimension, not-accepted}
+use Rattle.refusals.specs.declared.Refusal.{Refusal}
+use Rattle.refusals.specs.declared.Refusal.the-variants.{TooManyNodes, LargeDimension, NotAccepted}
+use Rattle.refusals.specs.Refusals.{Result}
 use Rattle.text.specs.Tokens.{Token}
-use Rattle.text.specs.Reading.{Outcome}
 use Rattle.grammar.specs.Meeting.{Begins, Fine, Wrong, no-text, many, large, Kept, Met, at-token, at-end}
 use Rattle.grammar.proofs.Beginnings.{Splits, longer, shorter, splits, front-empty, one-more, Verdict, refuses, accepts, Same, begins-same}
 
@@ -111,12 +112,12 @@ module _ {L M B W N D Whole : List Token → Type 0} (j : Joins L W Whole) (none
   met-behind A {ts} a k (at-end l n) = at-end (kept-behind A ts a k l) (λ h. let p = j .split (A ++ ts) h in n (subst W (sym (same-front (j .ending) A ts (p .front) (p .rest) a (p .before) (p .is) .1)) (p .such)))
 
   -- The answer behind a text of the first.
-  pub verdict-behind : (A : List Token) {ts : List Token} {C : Type 0} {o : Outcome C} → L A → Kept L M B A → Verdict W N D ts o → Verdict Whole (Limit L M N) (Limit L B D) (A ++ ts) o
+  pub verdict-behind : (A : List Token) {ts : List Token} {C : Type 0} {o : Result C} → L A → Kept L M B A → Verdict W N D ts o → Verdict Whole (Limit L M N) (Limit L B D) (A ++ ts) o
   verdict-behind A a k (refuses m) = refuses (met-behind A a k m)
   verdict-behind A {ts} a k (accepts l h) = accepts (kept-behind A ts a k l) (j .join (A ++ ts) (record { front = A; rest = ts; is = refl; before = a; such = h }))
 
   -- A token that no text of the first has there, where the first is no text yet.
-  pub stray-front : (P : List Token) (x : Token) (us : List Token) → Kept L M B P → (L P → ⊥) → (Begins L (P ++ x ∷ []) → ⊥) → Met Whole (Limit L M N) (Limit L B D) (P ++ x ∷ us) not-accepted
+  pub stray-front : (P : List Token) (x : Token) (us : List Token) → Kept L M B P → (L P → ⊥) → (Begins L (P ++ x ∷ []) → ⊥) → Met Whole (Limit L M N) (Limit L B D) (P ++ x ∷ us) NotAccepted
   stray-front P x us k n m = at-token P x us refl (kept-front P k) (no-text none-begins)
     where
       last : (A R rest C : List Token) → L A → A ≡ P ++ C → x ∷ rest ≡ C ++ R → ⊥
@@ -131,7 +132,7 @@ module _ {L M B W N D Whole : List Token → Type 0} (j : Joins L W Whole) (none
       none-begins b = let p = j .split ((P ++ x ∷ []) ++ b .rest) (b .whole) in from (p .front) (p .rest) (b .rest) (p .before) (splits P (x ∷ b .rest) (p .front) (p .rest) (sym (one-more P x (b .rest)) ∙ p .is))
 
   -- The end inside the first.
-  pub early-front : (P : List Token) → Kept L M B P → (L P → ⊥) → Met Whole (Limit L M N) (Limit L B D) P not-accepted
+  pub early-front : (P : List Token) → Kept L M B P → (L P → ⊥) → Met Whole (Limit L M N) (Limit L B D) P NotAccepted
   early-front P k n =
       at-end
       (kept-front P k)
@@ -139,8 +140,8 @@ module _ {L M B W N D Whole : List Token → Type 0} (j : Joins L W Whole) (none
       n (subst L (sym (p .is ∙ ap (λ l. p .front ++ l) (ends-there (j .ending) (p .front) (p .rest) (p .before) (subst (Begins L) (p .is) (k P [] (sym (append-nil P)) .begins))) ∙ append-nil (p .front))) (p .before)))
 
   -- The limits of the first.
-  pub many-front : (P : List Token) (x : Token) (us : List Token) → Kept L M B P → Begins L (P ++ x ∷ []) → M (P ++ x ∷ []) → Met Whole (Limit L M N) (Limit L B D) (P ++ x ∷ us) too-many-nodes
+  pub many-front : (P : List Token) (x : Token) (us : List Token) → Kept L M B P → Begins L (P ++ x ∷ []) → M (P ++ x ∷ []) → Met Whole (Limit L M N) (Limit L B D) (P ++ x ∷ us) TooManyNodes
   many-front P x us k b m = at-token P x us refl (kept-front P k) (many (begins-front j (none .begins) (P ++ x ∷ []) b) (within b m))
 
-  pub large-front : (P : List Token) (x : Token) (us : List Token) → Kept L M B P → Begins L (P ++ x ∷ []) → B (P ++ x ∷ []) → Met Whole (Limit L M N) (Limit L B D) (P ++ x ∷ us) large-dimension
+  pub large-front : (P : List Token) (x : Token) (us : List Token) → Kept L M B P → Begins L (P ++ x ∷ []) → B (P ++ x ∷ []) → Met Whole (Limit L M N) (Limit L B D) (P ++ x ∷ us) LargeDimension
   large-front P x us k b m = at-token P x us refl (kept-front P k) (large (begins-front j (none .begins) (P ++ x ∷ []) b) (within b m))

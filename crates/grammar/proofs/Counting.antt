@@ -12,9 +12,9 @@ use Rattle.text.specs.Tokens
 use Rattle.text.specs.Tokens.{Token, opening, word}
 use Rattle.text.specs.Words.{kindNamed, nodeNamed, zero-word, succ-word}
 use Rattle.text.specs.Reading.{Item, part, partList, number, numberList, close, claim, maxDim, run}
-use Rattle.grammar.specs.Meeting.{isHead, heads, pairs, EndsIn, ManyNodes, LargeDimension}
+use Rattle.grammar.specs.Meeting.{isHead, heads, pairs, EndsIn, ManyNodes, ManySuccs}
 use Rattle.grammar.proofs.Advancing.{Cost, node, succ, for-free, for-node, for-succ, free, Move, opens-part, bare-part, leaf-part, lit-part, one-part, two-parts, opens-number, bare-number, zero-number, succ-number, closes, begins, zero-no-succ, word-one}
-use Rattle.grammar.proofs.Walking.{lacks-node, lacks-succ, Paying, paid, no-node, no-succ, Counts, Judged, Answer, walked}
+use Rattle.grammar.proofs.Walking.{lacks-node, lacks-succ, Paying, paid, no-node, no-succ, Counts, Judged, Response, walked}
 
 -- Heads ------------------------------------------------------------------------------------------------
 
@@ -132,7 +132,7 @@ data Place (s : Sort) (m : ℕ) (Parts : Type 0) : List Item → List Token → 
   in-number : {I : List Item} {P Q : List Token} {j k : ℕ} → Inner s Parts I → Trail j Q → j + k ≡ m → P ≡ Q ++ opening ∷ [] → Place s m Parts (numberList k ∷ I) P
 
 -- The heads that were read and the nodes left are N.
-record Stands (s : Sort) (m N : ℕ) (Parts : Type 0) (I : List Item) (P : List Token) (n : ℕ) : Type 0 where
+record Tallies (s : Sort) (m N : ℕ) (Parts : Type 0) (I : List Item) (P : List Token) (n : ℕ) : Type 0 where
   place : Place s m Parts I P
   count : heads s P + n ≡ N
 
@@ -143,24 +143,24 @@ place-small {m = m} (at-number {j = j} {k} g t q) e = omega (arith, t .most (suc
 place-small {m = m} (in-number {Q = Q} g t q p) e = opening-no-succ (ends-succ Q opening (subst (EndsIn (suc m)) p e))
 
 module _ {s : Sort} {m N : ℕ} {Parts : Type 0} {M : List Token → Type 0} (dims : Parts → m ≡ maxDim) (many : (P : List Token) → Parts → N < heads s P → M P) where
-  free-paid : {I : List Item} (P : List Token) {x : Token} {n : ℕ} → heads s P + n ≡ N → Weighs s 0 x → Place s m Parts I (P ++ x ∷ []) → Paying (Stands s m N Parts) M (EndsIn (suc m)) I (P ++ x ∷ []) free n
+  free-paid : {I : List Item} (P : List Token) {x : Token} {n : ℕ} → heads s P + n ≡ N → Weighs s 0 x → Place s m Parts I (P ++ x ∷ []) → Paying (Tallies s m N Parts) M (EndsIn (suc m)) I (P ++ x ∷ []) free n
   free-paid P e w p = paid for-free (record { place = p; count = omega (arith, weighs-more P w, e) })
 
-  node-paid : {I : List Item} (P : List Token) {x : Token} (n : ℕ) → heads s P + n ≡ N → Parts → Weighs s 1 x → Place s m Parts I (P ++ x ∷ []) → Paying (Stands s m N Parts) M (EndsIn (suc m)) I (P ++ x ∷ []) node n
+  node-paid : {I : List Item} (P : List Token) {x : Token} (n : ℕ) → heads s P + n ≡ N → Parts → Weighs s 1 x → Place s m Parts I (P ++ x ∷ []) → Paying (Tallies s m N Parts) M (EndsIn (suc m)) I (P ++ x ∷ []) node n
   node-paid P {x} zero e q w p = no-node lacks-node (many (P ++ x ∷ []) q (omega (arith, weighs-more P w, e)))
   node-paid P (suc n) e q w p = paid for-node (record { place = p; count = omega (arith, weighs-more P w, e) })
 
-  head-paid : {I : List Item} (P : List Token) {w : List ℕ} {n : ℕ} → heads s P + n ≡ N → Parts → Weighs s 1 (word w) → (Trail 0 (P ++ word w ∷ []) → Place s m Parts I (P ++ word w ∷ [])) → Paying (Stands s m N Parts) M (EndsIn (suc m)) I (P ++ word w ∷ []) node n
+  head-paid : {I : List Item} (P : List Token) {w : List ℕ} {n : ℕ} → heads s P + n ≡ N → Parts → Weighs s 1 (word w) → (Trail 0 (P ++ word w ∷ []) → Place s m Parts I (P ++ word w ∷ [])) → Paying (Tallies s m N Parts) M (EndsIn (suc m)) I (P ++ word w ∷ []) node n
   head-paid P {w} {n} e q h p = node-paid P n e q h (p (trail-end P (λ p. omega (arith, h .is, succ-no-head s p))))
 
-  zero-paid : {I : List Item} (P : List Token) {w : List ℕ} {n : ℕ} → heads s P + n ≡ N → w ≡ zero-word → Inner s Parts I → Paying (Stands s m N Parts) M (EndsIn (suc m)) I (P ++ word w ∷ []) free n
+  zero-paid : {I : List Item} (P : List Token) {w : List ℕ} {n : ℕ} → heads s P + n ≡ N → w ≡ zero-word → Inner s Parts I → Paying (Tallies s m N Parts) M (EndsIn (suc m)) I (P ++ word w ∷ []) free n
   zero-paid P e z g = free-paid P e (zero-weighs s z) (plain g (trail-end P (λ p. zero-no-succ z (word-one p))))
 
-  succ-paid : {I : List Item} {P Q : List Token} {w : List ℕ} {j : ℕ} (k n : ℕ) → heads s P + n ≡ N → w ≡ succ-word → Inner s Parts I → Trail j Q → j + k ≡ m → P ≡ Q ++ opening ∷ [] → Paying (Stands s m N Parts) M (EndsIn (suc m)) (number (pred k) ∷ close ∷ I) (P ++ word w ∷ []) (succ k) n
+  succ-paid : {I : List Item} {P Q : List Token} {w : List ℕ} {j : ℕ} (k n : ℕ) → heads s P + n ≡ N → w ≡ succ-word → Inner s Parts I → Trail j Q → j + k ≡ m → P ≡ Q ++ opening ∷ [] → Paying (Tallies s m N Parts) M (EndsIn (suc m)) (number (pred k) ∷ close ∷ I) (P ++ word w ∷ []) (succ k) n
   succ-paid {P = P} {w = w} {j = j} zero n e z g t q p = no-succ lacks-succ (subst (λ k. EndsIn (suc k) (P ++ word w ∷ [])) (omega (arith, q)) (subst₂ (λ P w. EndsIn (suc j) (P ++ word w ∷ [])) (sym p) (sym z) (pair-ends (t .has))))
   succ-paid {P = P} {j = j} (suc k) n e z g t q p = paid for-succ (record { place = at-number {k = k} (a-close g) (subst₂ (λ P w. Trail (suc j) (P ++ word w ∷ [])) (sym p) (sym z) (trail-pair t)) (omega (arith, q)); count = omega (arith, weighs-more P (succ-weighs s z), e) })
 
-  pay-place : {i : Item} {x : Token} {I adds : List Item} {c : Cost} {P : List Token} {n : ℕ} → heads s P + n ≡ N → Place s m Parts (i ∷ I) P → Move i x adds c → Paying (Stands s m N Parts) M (EndsIn (suc m)) (adds ++ I) (P ++ x ∷ []) c n
+  pay-place : {i : Item} {x : Token} {I adds : List Item} {c : Cost} {P : List Token} {n : ℕ} → heads s P + n ≡ N → Place s m Parts (i ∷ I) P → Move i x adds c → Paying (Tallies s m N Parts) M (EndsIn (suc m)) (adds ++ I) (P ++ x ∷ []) c n
   pay-place {P = P} e (plain (a-part q g) t) opens-part = free-paid P e opening-weighs (in-list q g (trail-end P opening-no-succ))
   pay-place {P = P} e (plain (a-part q g) t) (bare-part {w = w} p) = head-paid P e q (named-weighs s w (leaf _) p refl) (plain g)
   pay-place {P = P} e (plain (a-close g) t) closes = free-paid P e closing-weighs (plain g (trail-end P closing-no-succ))
@@ -173,7 +173,7 @@ module _ {s : Sort} {m N : ℕ} {Parts : Type 0} {M : List Token → Type 0} (di
   pay-place {P = P} e (in-number g t q p) (zero-number z) = zero-paid P e z (a-close g)
   pay-place {P = P} {n = n} e (in-number {k = k} g t q p) (succ-number z) = succ-paid k n e z g t q p
 
-  counts : ((P : List Token) → M P → N < heads s P) → Counts (Stands s m N Parts) M (EndsIn (suc m))
+  counts : ((P : List Token) → M P → N < heads s P) → Counts (Tallies s m N Parts) M (EndsIn (suc m))
   counts few = record {
     few = λ {I} {P} {n} h o. omega (arith, few P o, h .count);
     small = λ h e. place-small (h .place) e;
@@ -181,11 +181,11 @@ module _ {s : Sort} {m N : ℕ} {Parts : Type 0} {M : List Token → Type 0} (di
   }
 
 -- From the start of a formula, and of a number that may have m s.
-pub formula-walked : (s : Sort) (K : List Item) {N D : List Token → Type 0} → Judged K N D → (ts : List Token) → Answer (part s) K (ManyNodes s) N LargeDimension D ts (run ts maxNodes (part s ∷ K))
+pub formula-walked : (s : Sort) (K : List Item) {N D : List Token → Type 0} → Judged K N D → (ts : List Token) → Response (part s) K (ManyNodes s) N ManySuccs D ts (run ts maxNodes (part s ∷ K))
 unfolding heads
 formula-walked s K h ts = walked (counts {Parts = Unit {0}} (λ u. refl) (λ P u m. m) (λ P m. m)) (part s) K h maxNodes ts (record { place = plain (a-part tt none) trail-none; count = omega arith })
 
-pub number-walked : (m : ℕ) (K : List Item) {N D : List Token → Type 0} → Judged K N D → (n : ℕ) (ts : List Token) → Answer (number m) K (λ P. ⊥) N (EndsIn (suc m)) D ts (run ts n (number m ∷ K))
+pub number-walked : (m : ℕ) (K : List Item) {N D : List Token → Type 0} → Judged K N D → (n : ℕ) (ts : List Token) → Response (number m) K (λ P. ⊥) N (EndsIn (suc m)) D ts (run ts n (number m ∷ K))
 unfolding heads
 number-walked m K h n ts = walked (counts {s = Faces} {N = n} {Parts = ⊥} (λ u. absurd u) (λ P u m. u) (λ P m. absurd m)) (number m) K h n ts (record { place = at-number none trail-none (omega arith); count = omega arith })
 
@@ -197,5 +197,5 @@ data AtClaim : List Item → List Token → ℕ → Type 0 where
 claim-pay : {i : Item} {x : Token} {I adds : List Item} {c : Cost} {P : List Token} {n : ℕ} → AtClaim (i ∷ I) P n → Move i x adds c → Paying AtClaim (λ P. ⊥) (λ P. ⊥) (adds ++ I) (P ++ x ∷ []) c n
 claim-pay first (begins z) = paid for-free behind
 
-pub claim-walked : (K : List Item) {N D : List Token → Type 0} → Judged K N D → (n : ℕ) (ts : List Token) → Answer claim K (λ P. ⊥) N (λ P. ⊥) D ts (run ts n (claim ∷ K))
+pub claim-walked : (K : List Item) {N D : List Token → Type 0} → Judged K N D → (n : ℕ) (ts : List Token) → Response claim K (λ P. ⊥) N (λ P. ⊥) D ts (run ts n (claim ∷ K))
 claim-walked K h n ts = walked (record { few = λ a e. e; small = λ a e. e; pay = claim-pay }) claim K h n ts first

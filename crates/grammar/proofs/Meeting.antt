@@ -6,13 +6,14 @@ use mathlib.Core.List.{List, [], _∷_, _++_, cons≢nil, append-assoc}
 use Rattle.formula.specs.declared.Sort.{Sort}
 use Rattle.formula.specs.declared.Sort.the-variants.{Faces}
 use Rattle.formula.specs.Bytes.{maxBound}
-use Rattle.calculus.specs.Refusal.{Refusal}
+use Rattle.refusals.specs.declared.Refusal.{Refusal}
+use Rattle.refusals.specs.Refusals.{refused}
 use Rattle.text.specs.Tokens.{Token, word, tokens}
 use Rattle.text.specs.Words.{succ-word, entails-word}
 use Rattle.text.specs.Grammar.{Number, Formula}
-use Rattle.text.specs.Reading.{Item, formula, part, number, claim, maxDim, refused, run, readFormula, readClaim}
+use Rattle.text.specs.Reading.{Item, formula, part, number, claim, maxDim, run, readFormula, readClaim}
 use Rattle.text.proofs.WholeLaws.{formula-part}
-use Rattle.grammar.specs.Meeting.{Begins, Fine, no-text, at-token, heads, pairs, EndsIn, FormulaText, ManyNodes, LargeDimension, FormulaMet, NumberText, ClaimText, Front, of-first, of-second, InFace, LargeNumber, of-d, of-face, ClaimMet}
+use Rattle.grammar.specs.Meeting.{Begins, Fine, no-text, at-token, heads, pairs, EndsIn, FormulaText, ManyNodes, ManySuccs, FormulaMet, NumberText, ClaimText, Front, of-first, of-second, InFace, LargeNumber, of-d, of-face, ClaimMet}
 use Rattle.grammar.proofs.Accepting.{claimed, claim-follows, follows-claim}
 use Rattle.grammar.proofs.Beginnings.{Splits, longer, shorter, splits, kept-none, Apart, Verdict, refuses, accepts, verdict-map, verdict-met, met-verdict, Same, begins-same, verdict-same}
 use Rattle.grammar.proofs.Composing.{Past, Limit, within, beyond, front-same}
@@ -39,15 +40,15 @@ formula-there s P t = (t .value .0, subst (Formula s (t .value .0) P) (t .follow
 formula-back : (s : Sort) (P : List Token) → FormulaText s P → Texts (part s ∷ []) P
 formula-back s P h = record { value = (h .0, tt); follows = record { behind = []; first = h .1; second = refl } }
 
-judged-formula : (s : Sort) (K : List Item) {N D : List Token → Type 0} → Judged K N D → Judged (formula s ∷ K) (Limit (FormulaText s) (ManyNodes s) N) (Limit (FormulaText s) LargeDimension D)
+judged-formula : (s : Sort) (K : List Item) {N D : List Token → Type 0} → Judged K N D → Judged (formula s ∷ K) (Limit (FormulaText s) (ManyNodes s) N) (Limit (FormulaText s) ManySuccs D)
 judged-formula s K {N} {D} h n ts =
     subst
-    (Verdict (Texts (formula s ∷ K)) (Limit (FormulaText s) (ManyNodes s) N) (Limit (FormulaText s) LargeDimension D) ts)
+    (Verdict (Texts (formula s ∷ K)) (Limit (FormulaText s) (ManyNodes s) N) (Limit (FormulaText s) ManySuccs D) ts)
     (sym (formula-part ts n s K))
     (verdict-same (front-same (formula-there s) (formula-back s) (λ P t. record { value = t .value; follows = t .follows }) (λ P t. record { value = t .value; follows = t .follows })) (formula-walked s K h ts))
 
 -- Behind it nothing is expected.
-only-formula : (s : Sort) → Same (Texts (formula s ∷ [])) (Limit (FormulaText s) (ManyNodes s) Never) (Limit (FormulaText s) LargeDimension Never) (FormulaText s) (ManyNodes s) LargeDimension
+only-formula : (s : Sort) → Same (Texts (formula s ∷ [])) (Limit (FormulaText s) (ManyNodes s) Never) (Limit (FormulaText s) ManySuccs Never) (FormulaText s) (ManyNodes s) ManySuccs
 only-formula s = record {
   there = there;
   back = λ P t. let h = formula-back s P t in record { value = h .value; follows = h .follows };
@@ -65,10 +66,10 @@ only-formula s = record {
     inside (beyond p) = absurd (p .such)
 
 -- A head is no s.
-formula-apart : (s : Sort) → Apart (FormulaText s) (ManyNodes s) LargeDimension
+formula-apart : (s : Sort) → Apart (FormulaText s) (ManyNodes s) ManySuccs
 formula-apart s P x f m e = omega (arith, heads-append s P (x ∷ []), f .few, m, succ-no-head s (ends-succ P x e))
 
-formula-verdict : (s : Sort) (l : List ℕ) → Verdict (FormulaText s) (ManyNodes s) LargeDimension (tokens l) (readFormula s l)
+formula-verdict : (s : Sort) (l : List ℕ) → Verdict (FormulaText s) (ManyNodes s) ManySuccs (tokens l) (readFormula s l)
 unfolding readFormula
 formula-verdict s l = verdict-map (λ v. v .0) (verdict-same (only-formula s) (judged-formula s [] judged-none 0 (tokens l)))
 
@@ -139,11 +140,11 @@ limit-there c k (beyond p) = in-number (p .rest) (p .is ∙ ap (λ l. l ++ p .re
 limit-back : {X T : List Token → Type 0} {P : List Token} → InFace T P → ClaimLimits X T P
 limit-back h = let p = face-back (h .front) (h .is) (h .before) (h .begins) (h .such) in beyond (record { front = p .front; rest = p .rest; is = p .is; before = p .before; such = beyond (p .such) })
 
-large-back : {P : List Token} → LargeNumber P → ClaimLimits (EndsIn (suc maxBound)) LargeDimension P
+large-back : {P : List Token} → LargeNumber P → ClaimLimits (EndsIn (suc maxBound)) ManySuccs P
 large-back (of-d h) = beyond (record { front = word entails-word ∷ []; rest = h .number; is = h .is; before = refl; such = within (h .begins) (h .such) })
 large-back (of-face h) = limit-back h
 
-whole-claim : Same (Texts claimed) (ClaimLimits Never (ManyNodes Faces)) (ClaimLimits (EndsIn (suc maxBound)) LargeDimension) ClaimText (InFace (ManyNodes Faces)) LargeNumber
+whole-claim : Same (Texts claimed) (ClaimLimits Never (ManyNodes Faces)) (ClaimLimits (EndsIn (suc maxBound)) ManySuccs) ClaimText (InFace (ManyNodes Faces)) LargeNumber
 whole-claim = record {
   there = λ P t. let v = t .value in (v .0, v .1 .0, v .1 .1 .0, follows-claim v (t .follows));
   back = λ P c. record { value = (c .0, (c .1, (c .2, tt))); follows = claim-follows (c .3) };

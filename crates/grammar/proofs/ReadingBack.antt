@@ -15,7 +15,8 @@ use Rattle.calculus.specs.Table.{textBytes}
 use Rattle.text.specs.Tokens.{Token, opening, closing, word, beginsWord, tokens}
 use Rattle.text.specs.Words.{names, firstKind, kindNamed, nodeNamed, zero-word, succ-word, entails-word}
 use Rattle.text.specs.Grammar.{Number, bare-zero, zero-list, succ-list, Formula, bare-leaf, leaf-list, lit-list, one-list, two-list, Claim, entails}
-use Rattle.text.specs.Reading.{Item, formula, part, number, close, claim, Outcome, refused, done, map, bareNode, maxDim, listNode, run, readFormula, Claimed, readClaim}
+use Rattle.refusals.specs.Refusals.{Result, refused, done, map}
+use Rattle.text.specs.Reading.{Item, formula, part, number, close, claim, bareNode, maxDim, listNode, run, readFormula, Claimed, readClaim}
 use Rattle.writing.specs.Texts.{itemsText, unaryText, faceText, formulaText}
 use Rattle.writing.specs.Writing.{nodeName, Names}
 use Rattle.writing.proofs.TextLaws.{spells-as}
@@ -140,7 +141,7 @@ claim-back c h =
 -- With anything behind it ------------------------------------------------------------------------------
 
 -- One function behind another.
-map-map : {A B C : Type 0} (f : B → C) (g : A → B) (o : Outcome A) → map f (map g o) ≡ map (λ x. f (g x)) o
+map-map : {A B C : Type 0} (f : B → C) (g : A → B) (o : Result A) → map f (map g o) ≡ map (λ x. f (g x)) o
 map-map f g (refused e) = refl
 map-map f g (done x) = refl
 

@@ -8,14 +8,16 @@ use Rattle.formula.specs.Formula.{ff, i0}
 use Rattle.formula.specs.Bytes.{Tree, leaf, nodeOf}
 use Rattle.formula.specs.Answers.{sameBytes}
 use Rattle.calculus.specs.Table.{textBytes}
-use Rattle.calculus.specs.Refusal.{Refusal, too-many-nodes, large-dimension}
+use Rattle.refusals.specs.declared.Refusal.{Refusal}
+use Rattle.refusals.specs.declared.Refusal.the-variants.{TooManyNodes, LargeDimension}
+use Rattle.refusals.specs.Refusals.{Result, refused, map}
 use Rattle.text.specs.Tokens
 use Rattle.text.specs.Tokens.{Token, word}
 use Rattle.text.specs.Words.{kindNamed, nodeNamed, zero-word, entails-word}
 use Rattle.text.specs.Grammar.{bare-zero, zero-list, bare-leaf, leaf-list}
-use Rattle.text.specs.Reading.{Item, formula, part, partList, number, numberList, close, claim, Values, Outcome, refused, map, run}
+use Rattle.text.specs.Reading.{Item, formula, part, partList, number, numberList, close, claim, Values, run}
 use Rattle.grammar.specs.Meeting.{Begins, Fine, Kept}
-use Rattle.grammar.proofs.Advancing.{Follows, Cost, node, succ, spend, Spends, spend-paid, Move, Advance, Stuck, Advances, goes, stuck, advances, nothing-follows}
+use Rattle.grammar.proofs.Advancing.{Follows, Cost, node, succ, spend, Spends, spend-paid, Move, GoesOn, Stuck, Advances, goes, stuck, advances, nothing-follows}
 use Rattle.grammar.proofs.Beginnings.{one-more, kept-none, kept-more, Verdict, refuses, verdict-map, verdict-none}
 use Rattle.grammar.proofs.Composing.{Past, Limit, Ending, Joins, verdict-behind, stray-front, early-front, many-front, large-front}
 
@@ -52,10 +54,10 @@ completed (claim ∷ K) = let b = completed K in record { rest = word entails-wo
 
 -- A token more of what is expected ---------------------------------------------------------------------
 
-texts-there : {i : Item} {x : Token} (a : Advance i x) (K : List Item) {ts : List Token} → Texts (a .adds ++ K) ts → Texts (i ∷ K) (x ∷ ts)
+texts-there : {i : Item} {x : Token} (a : GoesOn i x) (K : List Item) {ts : List Token} → Texts (a .adds ++ K) ts → Texts (i ∷ K) (x ∷ ts)
 texts-there a K {ts} t = record { value = a .with K (t .value); follows = a .there K ts (t .value) (t .follows) }
 
-texts-back : {i : Item} {x : Token} (a : Advance i x) (K : List Item) {ts : List Token} → Texts (i ∷ K) (x ∷ ts) → Texts (a .adds ++ K) ts
+texts-back : {i : Item} {x : Token} (a : GoesOn i x) (K : List Item) {ts : List Token} → Texts (i ∷ K) (x ∷ ts) → Texts (a .adds ++ K) ts
 texts-back a K {ts} t = let b = a .back K ts (t .value) (t .follows) in record { value = b .value; follows = b .holds }
 
 -- No text goes on as a longer text.
@@ -116,10 +118,10 @@ joins i K = record {
 
 -- A cost that cannot be paid, and the refusal.
 pub data Lacks : Cost → ℕ → Refusal → Type 0 where
-  lacks-node : Lacks node 0 too-many-nodes
-  lacks-succ : {n : ℕ} → Lacks (succ 0) n large-dimension
+  lacks-node : Lacks node 0 TooManyNodes
+  lacks-succ : {n : ℕ} → Lacks (succ 0) n LargeDimension
 
-spend-lacks : {A : Type 0} {c : Cost} {n : ℕ} {e : Refusal} (k : ℕ → Outcome A) → Lacks c n e → spend c n k ≡ refused e
+spend-lacks : {A : Type 0} {c : Cost} {n : ℕ} {e : Refusal} (k : ℕ → Result A) → Lacks c n e → spend c n k ≡ refused e
 spend-lacks k lacks-node = refl
 spend-lacks k lacks-succ = refl
 
@@ -130,8 +132,8 @@ Places = List Item → List Token → ℕ → Type 0
 -- The cost of a token is paid, or the token goes beyond a limit.
 pub data Paying (S : Places) (M B : List Token → Type 0) (I : List Item) (P : List Token) (c : Cost) (n : ℕ) : Type 0 where
   paid : {m : ℕ} → Spends c n m → S I P m → Paying S M B I P c n
-  no-node : Lacks c n too-many-nodes → M P → Paying S M B I P c n
-  no-succ : Lacks c n large-dimension → B P → Paying S M B I P c n
+  no-node : Lacks c n TooManyNodes → M P → Paying S M B I P c n
+  no-succ : Lacks c n LargeDimension → B P → Paying S M B I P c n
 
 -- The places know how far the limits are.
 pub record Counts (S : Places) (M B : List Token → Type 0) : Type 0 where
@@ -144,7 +146,7 @@ record Reached (I : List Item) (P : List Token) (J : List Item) : Type 0 where
   on : (us : List Token) → Texts J us → Texts I (P ++ us)
   back : (us : List Token) → Texts I (P ++ us) → Texts J us
 
-reached-more : {I J : List Item} {P : List Token} {i : Item} {x : Token} → Reached I P (i ∷ J) → (a : Advance i x) → Reached I (P ++ x ∷ []) (a .adds ++ J)
+reached-more : {I J : List Item} {P : List Token} {i : Item} {x : Token} → Reached I P (i ∷ J) → (a : GoesOn i x) → Reached I (P ++ x ∷ []) (a .adds ++ J)
 reached-more {I} {J} {P} {i} {x} r a = record {
   on = λ us t. subst (Texts I) (sym (one-more P x us)) (r .on (x ∷ us) (texts-there a J t));
   back = λ us t. texts-back a J (r .back (x ∷ us) (subst (Texts I) (one-more P x us) t));
@@ -165,8 +167,8 @@ abbrev pub Judged : (K : List Item) (M B : List Token → Type 0) → Type 0
 Judged K M B = (n : ℕ) (ts : List Token) → Verdict (Texts K) M B ts (run ts n K)
 
 -- The limits of the item in front and those behind it.
-abbrev pub Answer : (f : Item) (K : List Item) (M N B D : List Token → Type 0) → List Token → {A : Type 0} → Outcome A → Type 0
-Answer f K M N B D ts o = Verdict (Texts (f ∷ K)) (Limit (Texts (f ∷ [])) M N) (Limit (Texts (f ∷ [])) B D) ts o
+abbrev pub Response : (f : Item) (K : List Item) (M N B D : List Token → Type 0) → List Token → {A : Type 0} → Result A → Type 0
+Response f K M N B D ts o = Verdict (Texts (f ∷ K)) (Limit (Texts (f ∷ [])) M N) (Limit (Texts (f ∷ [])) B D) ts o
 
 module _ {S : Places} {M B : List Token → Type 0} (c : Counts S M B) where
   reached-fine : {H I : List Item} {P : List Token} {n : ℕ} → Reached H P I → S I P n → Fine (Texts H) M B P
@@ -174,47 +176,47 @@ module _ {S : Places} {M B : List Token → Type 0} (c : Counts S M B) where
 
   module _ (f : Item) (K : List Item) {N D : List Token → Type 0} (h : Judged K N D) where
     abbrev Walks : List Token → Type 0
-    Walks ts = (P : List Token) (n : ℕ) (I J : List Item) → Above K I J → Reached (f ∷ []) P I → S I P n → Kept (Texts (f ∷ [])) M B P → Answer f K M N B D (P ++ ts) (run ts n J)
+    Walks ts = (P : List Token) (n : ℕ) (I J : List Item) → Above K I J → Reached (f ∷ []) P I → S I P n → Kept (Texts (f ∷ [])) M B P → Response f K M N B D (P ++ ts) (run ts n J)
 
-    walk-cost : {us : List Token} → Walks us → (i : Item) (x : Token) (I J : List Item) (P : List Token) (n : ℕ) → Above K I J → Reached (f ∷ []) P (i ∷ I) → Kept (Texts (f ∷ [])) M B P → (a : Advance i x) → Paying S M B (a .adds ++ I) (P ++ x ∷ []) (a .cost) n → Answer f K M N B D (P ++ x ∷ us) (run (x ∷ us) n (i ∷ J))
+    walk-cost : {us : List Token} → Walks us → (i : Item) (x : Token) (I J : List Item) (P : List Token) (n : ℕ) → Above K I J → Reached (f ∷ []) P (i ∷ I) → Kept (Texts (f ∷ [])) M B P → (a : GoesOn i x) → Paying S M B (a .adds ++ I) (P ++ x ∷ []) (a .cost) n → Response f K M N B D (P ++ x ∷ us) (run (x ∷ us) n (i ∷ J))
     unfolding run
     walk-cost {us} w i x I J P n b r k a (paid {m} sp s) =
         let q = reached-more r a in
         subst
-        (Answer f K M N B D (P ++ x ∷ us))
+        (Response f K M N B D (P ++ x ∷ us))
         (sym (a .reads J n us ∙ spend-paid (λ m. map (a .with J) (run us m (a .adds ++ J))) sp))
-        (verdict-map (a .with J) (subst (λ l. Answer f K M N B D l (run us m (a .adds ++ J))) (one-more P x us) (w (P ++ x ∷ []) m (a .adds ++ I) (a .adds ++ J) (above-more (a .adds) b) q s (kept-more P x k (reached-fine q s)))))
+        (verdict-map (a .with J) (subst (λ l. Response f K M N B D l (run us m (a .adds ++ J))) (one-more P x us) (w (P ++ x ∷ []) m (a .adds ++ I) (a .adds ++ J) (above-more (a .adds) b) q s (kept-more P x k (reached-fine q s)))))
     walk-cost {us} w i x I J P n b r k a (no-node l m) =
         subst
-        (Answer f K M N B D (P ++ x ∷ us))
+        (Response f K M N B D (P ++ x ∷ us))
         (sym (a .reads J n us ∙ spend-lacks (λ m. map (a .with J) (run us m (a .adds ++ J))) l))
         (refuses (many-front (joins f K) (verdict-none (h 0 [])) P x us k (reached-begins (reached-more r a)) m))
     walk-cost {us} w i x I J P n b r k a (no-succ l m) =
         subst
-        (Answer f K M N B D (P ++ x ∷ us))
+        (Response f K M N B D (P ++ x ∷ us))
         (sym (a .reads J n us ∙ spend-lacks (λ m. map (a .with J) (run us m (a .adds ++ J))) l))
         (refuses (large-front (joins f K) (verdict-none (h 0 [])) P x us k (reached-begins (reached-more r a)) m))
 
-    walk-token : {us : List Token} → Walks us → (i : Item) (x : Token) (I J : List Item) (P : List Token) (n : ℕ) → Above K I J → Reached (f ∷ []) P (i ∷ I) → S (i ∷ I) P n → Kept (Texts (f ∷ [])) M B P → Advances i x → Answer f K M N B D (P ++ x ∷ us) (run (x ∷ us) n (i ∷ J))
+    walk-token : {us : List Token} → Walks us → (i : Item) (x : Token) (I J : List Item) (P : List Token) (n : ℕ) → Above K I J → Reached (f ∷ []) P (i ∷ I) → S (i ∷ I) P n → Kept (Texts (f ∷ [])) M B P → Advances i x → Response f K M N B D (P ++ x ∷ us) (run (x ∷ us) n (i ∷ J))
     unfolding run
     walk-token w i x I J P n b r s k (goes a) = walk-cost w i x I J P n b r k a (c .pay s (a .move))
     walk-token {us} w i x I J P n b r s k (stuck a) =
         subst
-        (Answer f K M N B D (P ++ x ∷ us))
+        (Response f K M N B D (P ++ x ∷ us))
         (sym (a .refuses J n us))
         (refuses (stray-front (joins f K) (verdict-none (h 0 [])) P x us k (reached-open r) (reached-stuck r a)))
 
     -- Behind the item.
-    walk-behind : (ts : List Token) (P : List Token) (n : ℕ) → Reached (f ∷ []) P [] → Kept (Texts (f ∷ [])) M B P → Answer f K M N B D (P ++ ts) (run ts n K)
+    walk-behind : (ts : List Token) (P : List Token) (n : ℕ) → Reached (f ∷ []) P [] → Kept (Texts (f ∷ [])) M B P → Response f K M N B D (P ++ ts) (run ts n K)
     walk-behind ts P n r k = verdict-behind (joins f K) (verdict-none (h 0 [])) P (subst (Texts (f ∷ [])) (append-nil P) (r .on [] (record { value = tt; follows = refl }))) k (h n ts)
 
     walk : (ts : List Token) → Walks ts
     unfolding run
     walk [] P n I J there r s k = walk-behind [] P n r k
     walk (x ∷ ts) P n I J there r s k = walk-behind (x ∷ ts) P n r k
-    walk [] P n I J (below b) r s k = subst (λ l. Answer f K M N B D l (run [] n J)) (sym (append-nil P)) (refuses (early-front (joins f K) (verdict-none (h 0 [])) P k (reached-open r)))
+    walk [] P n I J (below b) r s k = subst (λ l. Response f K M N B D l (run [] n J)) (sym (append-nil P)) (refuses (early-front (joins f K) (verdict-none (h 0 [])) P k (reached-open r)))
     walk (x ∷ ts) P n I J (below {i} {I = G} {J = L} b) r s k = walk-token (walk ts) i x G L P n b r s k (advances i x)
 
     -- From the start of the item.
-    pub walked : (n : ℕ) (ts : List Token) → S (f ∷ []) [] n → Answer f K M N B D ts (run ts n (f ∷ K))
+    pub walked : (n : ℕ) (ts : List Token) → S (f ∷ []) [] n → Response f K M N B D ts (run ts n (f ∷ K))
     walked n ts s = let r : Reached (f ∷ []) [] (f ∷ []) = record { on = λ us t. t; back = λ us t. t } in walk ts [] n (f ∷ []) (f ∷ K) (below there) r s (kept-none (reached-fine r s))

@@ -6,7 +6,8 @@ use Rattle.formula.specs.declared.Sort.{Sort}
 use Rattle.formula.specs.declared.Sort.the-variants.{Faces}
 use Rattle.formula.specs.Formula.{Face}
 use Rattle.formula.specs.Bytes.{Tree, Node, leaf, lit, one, two, bad, maxNodes, maxBound}
-use Rattle.calculus.specs.Refusal.{Refusal, too-many-nodes, large-dimension, not-accepted}
+use Rattle.refusals.specs.declared.Refusal.{Refusal}
+use Rattle.refusals.specs.declared.Refusal.the-variants.{TooManyNodes, LargeDimension, NotAccepted}
 use Rattle.text.specs.Tokens
 use Rattle.text.specs.Tokens.{Token, opening, word}
 use Rattle.text.specs.Words.{nodeNamed, succ-word, entails-word}
@@ -28,9 +29,9 @@ pub record Fine (Whole TooMany TooLarge : List Token → Type 0) (P : List Token
 
 -- What is wrong with the tokens: 11 where they begin no text; 3 and 4 where they begin one, and go beyond a limit.
 pub data Wrong (Whole TooMany TooLarge : List Token → Type 0) (P : List Token) : Refusal → Type 0 where
-  no-text : (Begins Whole P → ⊥) → Wrong Whole TooMany TooLarge P not-accepted
-  many : Begins Whole P → TooMany P → Wrong Whole TooMany TooLarge P too-many-nodes
-  large : Begins Whole P → TooLarge P → Wrong Whole TooMany TooLarge P large-dimension
+  no-text : (Begins Whole P → ⊥) → Wrong Whole TooMany TooLarge P NotAccepted
+  many : Begins Whole P → TooMany P → Wrong Whole TooMany TooLarge P TooManyNodes
+  large : Begins Whole P → TooLarge P → Wrong Whole TooMany TooLarge P LargeDimension
 
 -- Nothing is wrong with any beginning of the tokens, from none of them to all.
 abbrev pub Kept : (Whole TooMany TooLarge : List Token → Type 0) → List Token → Type 0
@@ -40,7 +41,7 @@ Kept Whole TooMany TooLarge P = (Q rest : List Token) → P ≡ Q ++ rest → Fi
 -- nothing is wrong with any beginning.
 pub data Met (Whole TooMany TooLarge : List Token → Type 0) (ts : List Token) : Refusal → Type 0 where
   at-token : {e : Refusal} (P : List Token) (x : Token) (rest : List Token) → ts ≡ P ++ x ∷ rest → Kept Whole TooMany TooLarge P → Wrong Whole TooMany TooLarge (P ++ x ∷ []) e → Met Whole TooMany TooLarge ts e
-  at-end : Kept Whole TooMany TooLarge ts → (Whole ts → ⊥) → Met Whole TooMany TooLarge ts not-accepted
+  at-end : Kept Whole TooMany TooLarge ts → (Whole ts → ⊥) → Met Whole TooMany TooLarge ts NotAccepted
 
 -- The limits of a formula ------------------------------------------------------------------------------
 
@@ -78,12 +79,12 @@ abbrev pub ManyNodes : Sort → List Token → Type 0
 ManyNodes s P = maxNodes < heads s P
 
 -- The tokens end with the 255th s of a dimension.
-abbrev pub LargeDimension : List Token → Type 0
-LargeDimension P = EndsIn (suc maxDim) P
+abbrev pub ManySuccs : List Token → Type 0
+ManySuccs P = EndsIn (suc maxDim) P
 
 -- What is met first in a text of a formula.
 abbrev pub FormulaMet : Sort → List Token → Refusal → Type 0
-FormulaMet s = Met (FormulaText s) (ManyNodes s) LargeDimension
+FormulaMet s = Met (FormulaText s) (ManyNodes s) ManySuccs
 
 -- The limits of a claim --------------------------------------------------------------------------------
 
@@ -119,7 +120,7 @@ pub record LargeD (P : List Token) : Type 0 where
 -- The tokens end with the 256th s of d, or with the 255th of a dimension.
 pub data LargeNumber (P : List Token) : Type 0 where
   of-d : LargeD P → LargeNumber P
-  of-face : InFace LargeDimension P → LargeNumber P
+  of-face : InFace ManySuccs P → LargeNumber P
 
 -- What is met first in a text of a claim: the nodes of each face are counted by themselves.
 abbrev pub ClaimMet : List Token → Refusal → Type 0

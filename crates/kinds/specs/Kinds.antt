@@ -6,7 +6,7 @@ use Rattle.formula.specs.declared.Sort.the-variants.{Faces, Intervals}
 use Rattle.calculus.specs.Table.{Pred, pLt, pLe, pInterval, pFace, pMember, pTake, pCover, pEntails, pBoundary, pLocal, pFforall, pIshift, pIsubst, pFshift, pFsubst, Entry, entry, unlisted, table, entryOf, textBytes}
 use Rattle.calculus.specs.Record.{fields}
 use Rattle.calculus.specs.Record
-use Rattle.kinds.specs.declared.Entry.{Entry as Answer}
+use Rattle.kinds.specs.declared.Entry.{Entry as RowRead}
 use Rattle.kinds.specs.declared.Entry.the-variants.{Listed, Unlisted}
 use Rattle.kinds.specs.declared.Field.{Field}
 use Rattle.kinds.specs.declared.Field.the-variants.{Number, Index, Context, End, Face, Interval, Nothing}
@@ -34,7 +34,7 @@ abbrev pub predicateOf : ℕ → Pred
 predicateOf n = getD (pLt ∷ pLe ∷ pInterval ∷ pFace ∷ pMember ∷ pTake ∷ pCover ∷ pEntails ∷ pBoundary ∷ pLocal ∷ pFforall ∷ pIshift ∷ pIsubst ∷ pFshift ∷ pFsubst ∷ []) n pLt
 
 -- An entry as it is answered.
-abbrev pub entryAs : Entry → Answer
+abbrev pub entryAs : Entry → RowRead
 entryAs (entry name n p) = Listed n (numberOf p)
 entryAs unlisted = Unlisted
 

@@ -22,7 +22,7 @@ use Rattle.records.proofs.PlaceLaws.{little-at, little-short}
 use Rattle.ledger.specs.declared.Checked.{Checked}
 use Rattle.ledger.specs.declared.Checked.the-variants.{Steps, Ill}
 use Rattle.ledger.specs.Ledger.{stepsOf, Led, placeOf, Points}
-use Rattle.ledger.specs.Checks.{counted, recordsIn}
+use Rattle.ledger.specs.Checks.{saidChecked, stepCount, counted, recordsIn}
 use Rattle.ledger.proofs.LedgerLaws.{holds-steps, holds-led}
 
 -- Parts at places ---------------------------------------------------------------------------
@@ -115,6 +115,23 @@ module _ (i : ℕ) (l : List ℕ) (at : ℕ) (h : at + 4 ≤ length l) {n : ℕ}
 -- The steps of a part before zeros.
 abbrev stepsOfPart : Got (List ℕ) → Got (List Step)
 stepsOfPart g = then g (λ part rest. only (allZero rest) (readSteps (length part) 0 part))
+
+-- What is said of an answer fixes it.
+pub said-counted : (o : Option (List Step)) {x : Checked} → x ≡ counted o → saidChecked x ≡ stepCount o
+said-counted o e = ap saidChecked e ∙ go o
+  where
+    go : (o : Option (List Step)) → saidChecked (counted o) ≡ stepCount o
+    go none = refl
+    go (some L) = refl
+
+pub counted-as : (l : List ℕ) {x : Checked} → saidChecked x ≡ stepCount (readLedger l) → x ≡ counted (readLedger l)
+counted-as l {x} e = go (readLedger l) x e
+  where
+    go : (o : Option (List Step)) (x : Checked) → saidChecked x ≡ stepCount o → x ≡ counted o
+    go none Ill e = refl
+    go none (Steps n) e = absurd (let z : _≡_ {A = ℕ} 0 1 = cc in omega arith)
+    go (some L) Ill e = absurd (let z : _≡_ {A = ℕ} 0 1 = cc in omega arith)
+    go (some L) (Steps n) e = ap Steps (let h : n ≡ length L = cc in h)
 
 pub ledger-short : (l : List ℕ) → length l < 4 → counted (readLedger l) ≡ Ill
 unfolding readLedger

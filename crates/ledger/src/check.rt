@@ -2,7 +2,7 @@
 use crate::Checked;
 ghost use mathlib.Core.Path.{_≡_};
 ghost use Rattle.calculus.specs.Parse.{readLedger};
-ghost use Rattle.ledger.specs.Checks.{counted, recordsIn};
+ghost use Rattle.ledger.specs.Checks.{saidChecked, stepCount, recordsIn};
 
 // The number of the steps whose records fill the bytes.
 fn count_records(s: &[u8]) -> Checked
@@ -31,7 +31,7 @@ fn count_records(s: &[u8]) -> Checked
 
 // The number of steps, exactly where the bytes are a well-formed ledger.
 pub fn well_formed(l: &[u8]) -> Checked
-    ensures { λ r. ⌜ r ≡ counted (readLedger (now (l .entry))) ⌝ }
+    ensures { λ r. ⌜ saidChecked r ≡ stepCount (readLedger (now (l .entry))) ⌝ }
 {
     if l.len() < 4 {
         return Checked::Ill;

@@ -24,18 +24,17 @@ use Rattle.calculus.specs.Parse.{readValues, readLedger}
 use Rattle.calculus.proofs.Searching.{nodes-positive}
 use Rattle.calculus.proofs.Fields.{read-values}
 use Rattle.kinds.specs.Kinds.{numberOf, predicateOf, nameIn, nameBytes, entryAs}
-use Rattle.kinds.specs.declared.Entry.{Entry as Answer}
+use Rattle.kinds.specs.declared.Entry.{Entry as RowRead}
 use Rattle.kinds.specs.declared.Entry.the-variants.{Listed, Unlisted}
 use Rattle.kinds.proofs.KindLaws.{numbered, allBelow, below-at, few-references, listed-same, not-unlisted}
 use Rattle.ledger.specs.Ledger.{stepsOf, placeOf, Led, Points, stepsIn}
 use Rattle.ledger.proofs.LedgerLaws.{formed-at-0, many, place-next, place-end}
 use Rattle.ledger.proofs.PointLaws.{points-entry}
-use Rattle.calculus.specs.Refusal.{ill-formed-ledger, short-output}
+use Rattle.refusals.specs.declared.Refusal.the-variants.{IllFormedLedger, ShortOutput}
+use Rattle.refusals.specs.Refusals.{refused, done}
 use Rattle.ledger.specs.Checks.{counted as checked}
 use Rattle.ledger.specs.declared.Checked.{Checked}
 use Rattle.ledger.specs.declared.Checked.the-variants.{Steps, Ill}
-use Rattle.refusals.specs.declared.Refusal.the-variants.{IllFormedLedger}
-use Rattle.text.specs.Reading.{refused, done}
 use Rattle.text.specs.Answers.{delivered, saidLength}
 use Rattle.text.specs.Wholes.{Delivers}
 use Rattle.text.specs.declared.Length.{Length}
@@ -112,10 +111,10 @@ some-reference is j h r =
 pub next-reference : (is : List ℕ) (j : ℕ) → j + 1 < length is → referencesText (drop j is) ≡ decimalText (getD is j 0) ++ (44 ∷ referencesText (drop (j + 1) is))
 next-reference is j h = more-references is j h ∙ ap (λ (k : ℕ). decimalText (getD is j 0) ++ (44 ∷ referencesText (drop k is))) (sym (add-one j))
 
-pub counted : {l : List ℕ} {step at n p : ℕ} {r : Answer} → Points l step at → {k : ℕ} → k ≡ (stepOf l step) .kind → r ≡ entryAs (entryOf k) → r ≡ Listed n p → n ≡ length ((stepOf l step) .references)
+pub counted : {l : List ℕ} {step at n p : ℕ} {r : RowRead} → Points l step at → {k : ℕ} → k ≡ (stepOf l step) .kind → r ≡ entryAs (entryOf k) → r ≡ Listed n p → n ≡ length ((stepOf l step) .references)
 counted h e f g = listed-same (sym g ∙ f ∙ ap (λ (k : ℕ). entryAs (entryOf k)) e ∙ points-entry h) .0
 
-pub not-counted : {A : Type 0} {l : List ℕ} {step at : ℕ} {r : Answer} → Points l step at → {k : ℕ} → k ≡ (stepOf l step) .kind → r ≡ entryAs (entryOf k) → r ≡ Unlisted → A
+pub not-counted : {A : Type 0} {l : List ℕ} {step at : ℕ} {r : RowRead} → Points l step at → {k : ℕ} → k ≡ (stepOf l step) .kind → r ≡ entryAs (entryOf k) → r ≡ Unlisted → A
 not-counted h e f g = not-unlisted (sym g ∙ f ∙ ap (λ (k : ℕ). entryAs (entryOf k)) e ∙ points-entry h)
 
 drop-zero : {A : Type 0} (l : List A) → drop 0 l ≡ l
@@ -282,7 +281,7 @@ module _ {l : List ℕ} {r : Checked} (e : r ≡ checked (readLedger l)) where
   pub step-ill : (i : ℕ) (out : List ℕ) → r ≡ Ill → WritesStep l i out (Refused IllFormedLedger) out
   step-ill i out h = record { equal = go (readLedger l) (sym e ∙ h) }
     where
-      go : (o : Option (List Step)) → checked o ≡ Ill → delivered (lineOf o i) out ≡ record { answer = refused ill-formed-ledger; output = out }
+      go : (o : Option (List Step)) → checked o ≡ Ill → delivered (lineOf o i) out ≡ record { answer = refused IllFormedLedger; output = out }
       go none k = refl
       go (some L) k = absurd (let z : _≡_ {A = ℕ} 0 1 = cc in omega arith)
 
@@ -293,7 +292,7 @@ module _ {l : List ℕ} {r : Checked} (e : r ≡ checked (readLedger l)) where
       go none q = absurd (let z : _≡_ {A = ℕ} 0 1 = cc in omega arith)
       go (some L) q =
           let m : length L ≡ n = cc in
-          ap (λ (t : Bool). delivered (done (pick t (lineText i (stepAt L i)) [])) out) (le-ltb i (length L) (omega arith)) ∙ ap (λ (t : Bool). pick t (record { answer = done 0; output = out }) (record { answer = refused short-output; output = out })) (le-leb 0 (length out) (omega arith))
+          ap (λ (t : Bool). delivered (done (pick t (lineText i (stepAt L i)) [])) out) (le-ltb i (length L) (omega arith)) ∙ ap (λ (t : Bool). pick t (record { answer = done 0; output = out }) (record { answer = refused ShortOutput; output = out })) (le-leb 0 (length out) (omega arith))
 
   pub step-in : (i : ℕ) {out out′ : List ℕ} {x : Length} {n : ℕ} → r ≡ Steps n → i < n → Delivers (lineText i (stepOf l i)) out x out′ → WritesStep l i out x out′
   unfolding stepsOf

@@ -9,15 +9,15 @@ use Rattle.formula.specs.Answers.{pick}
 use Rattle.calculus.specs.Judgement.{Step}
 use Rattle.calculus.specs.Rules.{stepAt}
 use Rattle.calculus.specs.Parse.{readLedger}
-use Rattle.calculus.specs.Refusal.{ill-formed-ledger}
-use Rattle.text.specs.Reading.{Outcome, refused, done}
+use Rattle.refusals.specs.declared.Refusal.the-variants.{IllFormedLedger}
+use Rattle.refusals.specs.Refusals.{Result, refused, done}
 use Rattle.text.specs.Answers.{delivered, saidLength}
 use Rattle.text.specs.declared.Length.{Length}
 use Rattle.listing.specs.Lines.{lineText}
 
 -- The line of step i among those that were read: 1 where the bytes are no ledger, nothing past the end.
-abbrev pub lineOf : Option (List Step) → ℕ → Outcome (List ℕ)
-lineOf none i = refused ill-formed-ledger
+abbrev pub lineOf : Option (List Step) → ℕ → Result (List ℕ)
+lineOf none i = refused IllFormedLedger
 lineOf (some L) i = done (pick (ltb i (length L)) (lineText i (stepAt L i)) [])
 
 -- The answer and every byte of the output are those for the line of step i of the ledger l; 6 where it does not fit.

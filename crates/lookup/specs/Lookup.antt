@@ -10,7 +10,7 @@ use Rattle.calculus.specs.Rules.{stepAt}
 use Rattle.calculus.specs.Record.{operandBytes}
 use Rattle.kinds.specs.Kinds.{nameBytes}
 use Rattle.ledger.specs.Ledger.{placeOf}
-use Rattle.text.specs.Reading.{done}
+use Rattle.refusals.specs.Refusals.{done}
 use Rattle.text.specs.Answers.{delivered, saidLength}
 use Rattle.text.specs.declared.Length.{Length}
 

@@ -16,12 +16,11 @@ use Rattle.formula.specs.declared.Size.{Size}
 use Rattle.formula.specs.declared.Measured.{Measured}
 use Rattle.formula.specs.declared.Measured.the-variants.{Ill}
 use Rattle.formula.specs.Bytes.{encode, encodeFace, readAll, nodes, nodesFace, bound, maxNodes, maxBound}
-use Rattle.formula.specs.Answers.{pick, sizeOf, keeps, measured, measuredAs}
-use Rattle.formula.proofs.Measuring.{Sized}
+use Rattle.formula.specs.Answers.{pick, sizeOf, keeps, saidMeasured, measurement}
+use Rattle.formula.proofs.Measuring.{measuredAs, measured, measured-as, Sized}
 use Rattle.formula.proofs.Reading.{readAll-encode, encode-readAll, encode-pos}
-use Rattle.calculus.specs.Refusal.{not-a-formula, too-many-nodes, large-dimension, large-result, short-output}
 use Rattle.refusals.specs.declared.Refusal.the-variants.{NotAFormula, TooManyNodes, LargeDimension, LargeResult, ShortOutput}
-use Rattle.text.specs.Reading.{Outcome, refused, done, map}
+use Rattle.refusals.specs.Refusals.{Result, refused, done, map}
 use Rattle.text.specs.Answers.{Delivered, delivered, saidLength}
 use Rattle.text.specs.declared.Length.{Length}
 use Rattle.clauses.specs.Normal.{normal}
@@ -37,11 +36,11 @@ use Rattle.normal.specs.Delivering.{IsFace, Delivers, Gives}
 face-size : {l : List ℕ} {z : Size} → Sized Faces l z → (g : Formula.Face) → l ≡ encodeFace g → z ≡ sizeOf Faces g
 face-size s g e = sym (s .size) ∙ ap (sizeOf Faces) (Option·some-injective _ _ (sym (s .whole) ∙ ap (readAll Faces) e ∙ readAll-encode Faces g))
 
-limited-by : (g : Formula.Face) (out : List ℕ) {b : Bool} → keeps (sizeOf Faces g) ≡ b → put (limited (some g)) out ≡ put (pick b (done g) (refused large-result)) out
-limited-by g out e = ap (λ b. put (pick b (done g) (refused large-result)) out) e
+limited-by : (g : Formula.Face) (out : List ℕ) {b : Bool} → keeps (sizeOf Faces g) ≡ b → put (limited (some g)) out ≡ put (pick b (done g) (refused LargeResult)) out
+limited-by g out e = ap (λ b. put (pick b (done g) (refused LargeResult)) out) e
 
-put-by : (g : Formula.Face) (out : List ℕ) {b : Bool} → leb (length (encodeFace g)) (length out) ≡ b → put (done g) out ≡ pick b (record { answer = done (sizeOf Faces g); output = sets out 0 (encodeFace g) }) (record { answer = refused short-output; output = out })
-put-by g out e = ap (λ b. pick b (record { answer = done (sizeOf Faces g); output = sets out 0 (encodeFace g) }) (record { answer = refused short-output; output = out })) e
+put-by : (g : Formula.Face) (out : List ℕ) {b : Bool} → leb (length (encodeFace g)) (length out) ≡ b → put (done g) out ≡ pick b (record { answer = done (sizeOf Faces g); output = sets out 0 (encodeFace g) }) (record { answer = refused ShortOutput; output = out })
+put-by g out e = ap (λ b. pick b (record { answer = done (sizeOf Faces g); output = sets out 0 (encodeFace g) }) (record { answer = refused ShortOutput; output = out })) e
 
 module _ {l : List ℕ} {z : Size} (s : Sized Faces l z) where
   kept-as : {b : Bool} → keeps z ≡ b → (g : Formula.Face) → l ≡ encodeFace g → keeps (sizeOf Faces g) ≡ b
@@ -61,9 +60,9 @@ module _ {l : List ℕ} {z : Size} (s : Sized Faces l z) where
         ∙ ap₂ (λ (y : Size) (o : List ℕ). record { answer = done y; output = o }) (sym (face-size s g e)) (ap (sets out 0) (sym e) ∙ sym i);
   }
 
-pub face-measured : {l : List ℕ} {m : Measured} → IsFace l → m ≡ measured Faces l → m ≡ Ill → ⊥
+pub face-measured : {l : List ℕ} {m : Measured} → IsFace l → saidMeasured m ≡ measurement Faces l → m ≡ Ill → ⊥
 unfolding measured
-face-measured p e i = go (sym (ap (measuredAs Faces) (ap (readAll Faces) (p .bytes) ∙ readAll-encode Faces (p .face))) ∙ sym e ∙ i)
+face-measured p e i = go (sym (ap (measuredAs Faces) (ap (readAll Faces) (p .bytes) ∙ readAll-encode Faces (p .face))) ∙ sym (measured-as Faces _ e) ∙ i)
   where
     go : measuredAs Faces (some (p .face)) ≡ Ill → ⊥
     go k = let q : _≡_ {A = ℕ} 0 1 = cc in omega arith
@@ -83,11 +82,11 @@ record Told (o : Option Formula.Face) (x : List ℕ) : Type 0 where
 kept-nodes : (g : Formula.Face) → leb (nodesFace g) maxNodes ≡ false → keeps (sizeOf Faces g) ≡ false
 kept-nodes g e = ap (λ b. b && leb (bound Faces g) maxBound) e
 
-no-bytes : (o : Option Formula.Face) (out : List ℕ) → length (shortNormal o) ≡ 0 → put (limited o) out ≡ record { answer = refused large-result; output = out }
+no-bytes : (o : Option Formula.Face) (out : List ℕ) → length (shortNormal o) ≡ 0 → put (limited o) out ≡ record { answer = refused LargeResult; output = out }
 no-bytes none out e = refl
 no-bytes (some g) out e = go (leb (nodesFace g) maxNodes) refl e
   where
-    go : (b : Bool) → leb (nodesFace g) maxNodes ≡ b → length (pick b (encodeFace g) []) ≡ 0 → put (limited (some g)) out ≡ record { answer = refused large-result; output = out }
+    go : (b : Bool) → leb (nodesFace g) maxNodes ≡ b → length (pick b (encodeFace g) []) ≡ 0 → put (limited (some g)) out ≡ record { answer = refused LargeResult; output = out }
     go true h k = absurd (omega (arith, k, encode-pos Faces g))
     go false h k = limited-by g out (kept-nodes g h)
 
@@ -130,11 +129,11 @@ module _ {f l : List ℕ} {n : ℕ} {l′ : List ℕ} (p : Normals f l n l′) w
 
 -- ---- the questions before
 
-pub normal-ill : {f out : List ℕ} {m : Measured} → m ≡ measured Faces f → m ≡ Ill → Normalises f out (Refused NotAFormula) out
+pub normal-ill : {f out : List ℕ} {m : Measured} → saidMeasured m ≡ measurement Faces f → m ≡ Ill → Normalises f out (Refused NotAFormula) out
 unfolding measured
-normal-ill {f} {out} e i = record { equal = go (readAll Faces f) (sym e ∙ i) }
+normal-ill {f} {out} e i = record { equal = go (readAll Faces f) (sym (measured-as Faces f e) ∙ i) }
   where
-    go : (o : Option Formula.Face) → measuredAs Faces o ≡ Ill → put (normalOf o) out ≡ record { answer = refused not-a-formula; output = out }
+    go : (o : Option Formula.Face) → measuredAs Faces o ≡ Ill → put (normalOf o) out ≡ record { answer = refused NotAFormula; output = out }
     go none k = refl
     go (some t) k = absurd (let q : _≡_ {A = ℕ} 0 1 = cc in omega arith)
 
@@ -146,8 +145,8 @@ module _ {f : List ℕ} {z : Size} (s : Sized Faces f z) where
   tree-bound = ap (λ (y : Size). y .bound) (s .size)
 
   asked : (out : List ℕ) {x y : Bool} → leb (nodes Faces (s .tree)) maxNodes ≡ x → leb (bound Faces (s .tree)) maxBound ≡ y
-      → put (normalOf (readAll Faces f)) out ≡ put (pick x (pick y (limited (normal (s .tree))) (refused large-dimension)) (refused too-many-nodes)) out
-  asked out e i = ap (λ o. put (normalOf o) out) (s .whole) ∙ ap₂ (λ (x y : Bool). put (pick x (pick y (limited (normal (s .tree))) (refused large-dimension)) (refused too-many-nodes)) out) e i
+      → put (normalOf (readAll Faces f)) out ≡ put (pick x (pick y (limited (normal (s .tree))) (refused LargeDimension)) (refused TooManyNodes)) out
+  asked out e i = ap (λ o. put (normalOf o) out) (s .whole) ∙ ap₂ (λ (x y : Bool). put (pick x (pick y (limited (normal (s .tree))) (refused LargeDimension)) (refused TooManyNodes)) out) e i
 
   pub normal-many : {out : List ℕ} → 511 < z .nodes → Normalises f out (Refused TooManyNodes) out
   normal-many {out} h = record { equal = asked out (lt-leb (nodesFace (s .tree)) maxNodes (omega (arith, h, tree-nodes))) refl }
@@ -171,9 +170,9 @@ module _ {f : List ℕ} {z : Size} (s : Sized Faces f z) where
 abbrev lengthOf : Formed → Delivered
 lengthOf x = record { answer = map (λ (z : Size). z .len) (x .answer); output = x .output }
 
-lengths : (o : Outcome Formula.Face) (out : List ℕ) → delivered (map (encode Faces) o) out ≡ lengthOf (put o out)
+lengths : (o : Result Formula.Face) (out : List ℕ) → delivered (map (encode Faces) o) out ≡ lengthOf (put o out)
 lengths (refused e) out = refl
-lengths (done g) out = go (leb (length (encodeFace g)) (length out)) (record { answer = done (sizeOf Faces g); output = sets out 0 (encodeFace g) }) (record { answer = refused short-output; output = out })
+lengths (done g) out = go (leb (length (encodeFace g)) (length out)) (record { answer = done (sizeOf Faces g); output = sets out 0 (encodeFace g) }) (record { answer = refused ShortOutput; output = out })
   where
     go : (b : Bool) (x y : Formed) → pick b (lengthOf x) (lengthOf y) ≡ lengthOf (pick b x y)
     go true x y = refl
@@ -184,4 +183,4 @@ pub normal-length : {f out : List ℕ} {r : Normalised} {out′ : List ℕ} (n :
 normal-length {f} {out} {r} {out′} n h e =
     lengths (normalOf (readAll Faces f)) out
     ∙ ap lengthOf (h .equal)
-    ∙ ap (λ (x : Outcome ℕ). record { answer = x; output = out′ }) (sym e)
+    ∙ ap (λ (x : Result ℕ). record { answer = x; output = out′ }) (sym e)

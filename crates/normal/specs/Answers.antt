@@ -11,37 +11,36 @@ use Rattle.formula.specs.declared.Sort.the-variants.{Faces}
 use Rattle.formula.specs.declared.Size.{Size}
 use Rattle.formula.specs.Bytes.{encode, readAll, nodes, bound, maxNodes, maxBound}
 use Rattle.formula.specs.Answers.{pick, sizeOf, keeps}
-use Rattle.calculus.specs.Refusal.{not-a-formula, too-many-nodes, large-dimension, large-result, short-output}
-use Rattle.refusals.specs.Refusals.{refusalOf}
-use Rattle.text.specs.Reading.{Outcome, refused, done}
+use Rattle.refusals.specs.declared.Refusal.the-variants.{NotAFormula, TooManyNodes, LargeDimension, LargeResult, ShortOutput}
+use Rattle.refusals.specs.Refusals.{Result, refused, done}
 use Rattle.clauses.specs.Normal.{normal}
 use Rattle.normal.specs.declared.Normalised.{Normalised}
 use Rattle.normal.specs.declared.Normalised.the-variants.{Form, Refused}
 
 -- 5 where some list has over 256 clauses before pruning, or where the normal form is beyond the limits.
-abbrev pub limited : Option Face → Outcome Face
-limited none = refused large-result
-limited (some g) = pick (keeps (sizeOf Faces g)) (done g) (refused large-result)
+abbrev pub limited : Option Face → Result Face
+limited none = refused LargeResult
+limited (some g) = pick (keeps (sizeOf Faces g)) (done g) (refused LargeResult)
 
 -- The normal form of what was read: 2 where it is no face, 3 and 4 where that is beyond the limits, then 5.
-abbrev pub normalOf : Option Face → Outcome Face
-normalOf none = refused not-a-formula
-normalOf (some f) = pick (leb (nodes Faces f) maxNodes) (pick (leb (bound Faces f) maxBound) (limited (normal f)) (refused large-dimension)) (refused too-many-nodes)
+abbrev pub normalOf : Option Face → Result Face
+normalOf none = refused NotAFormula
+normalOf (some f) = pick (leb (nodes Faces f) maxNodes) (pick (leb (bound Faces f) maxBound) (limited (normal f)) (refused LargeDimension)) (refused TooManyNodes)
 
 -- The length, nodes and bound of a normal form, or a refusal, and the output's bytes.
 pub record Formed : Type 0 where
-  pub answer : Outcome Size
+  pub answer : Result Size
   pub output : List ℕ
 
 -- It stands in front of the output where it fits; else 6, and every byte stays.
-abbrev pub put : Outcome Face → List ℕ → Formed
+abbrev pub put : Result Face → List ℕ → Formed
 put (refused e) out = record { answer = refused e; output = out }
-put (done g) out = pick (leb (length (encode Faces g)) (length out)) (record { answer = done (sizeOf Faces g); output = sets out 0 (encode Faces g) }) (record { answer = refused short-output; output = out })
+put (done g) out = pick (leb (length (encode Faces g)) (length out)) (record { answer = done (sizeOf Faces g); output = sets out 0 (encode Faces g) }) (record { answer = refused ShortOutput; output = out })
 
 -- What an answer says.
-abbrev pub said : Normalised → Outcome Size
+abbrev pub said : Normalised → Result Size
 said (Form z) = done z
-said (Refused e) = refused (refusalOf e)
+said (Refused e) = refused e
 
 -- The answer and every byte of the output are those for the normal form of the face that the bytes are.
 pub record Normalises (f out : List ℕ) (r : Normalised) (out′ : List ℕ) : Type 0 where

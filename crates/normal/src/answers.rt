@@ -5,7 +5,7 @@ use formula::Sort;
 use refusals::Refusal;
 use text::Length;
 ghost use mathlib.Core.Path.{_≡_};
-ghost use Rattle.text.specs.Reading.{map};
+ghost use Rattle.refusals.specs.Refusals.{map};
 ghost use Rattle.text.specs.Answers.{saidLength};
 ghost use Rattle.normal.specs.Answers.{said, Normalises};
 ghost use Rattle.normal.specs.Delivering.{IsFace, Delivers, Gives};

@@ -4,32 +4,23 @@ use mathlib.Core.Bool.{Bool, true, false}
 use mathlib.Core.List.{List, [], _∷_}
 use Prim.Native.Nat.{ℕ, zero, suc, _+_, _*_, _-_}
 use Rattle.calculus.specs.Rules.{pass, fail}
-use Rattle.calculus.specs.Refusal.{number, ill-formed-ledger, does-not-follow}
+use Rattle.refusals.specs.declared.Refusal.the-variants.{IllFormedLedger, DoesNotFollow}
+use Rattle.refusals.specs.Refusals
+use Rattle.refusals.specs.Refusals.{number, Result, done}
 use Rattle.calculus.specs.Door
 use Rattle.calculus.specs.Door.{answered, Reply}
 use Rattle.calculus.specs.Desk.{DeskAnswer, unreadable, judged}
-use Rattle.ledger.specs.declared.Checked.{Checked}
-use Rattle.ledger.specs.declared.Checked.the-variants.{Steps, Ill}
-use Rattle.text.specs.Reading
-use Rattle.text.specs.Reading.{Outcome, done}
 use Rattle.text.specs.Answers.{Delivered, Lengths, BothDelivered}
-use Rattle.repeat_test.specs.Repeats
-use Rattle.repeat_test.specs.Repeats.{Said}
 
 -- Refusal n is the bits of -n.
 abbrev pub refused : ℕ → ℕ
 refused n = 18446744073709551616 - n
 
--- The number of steps, or refusal 1.
-abbrev pub stepsNumber : Checked → ℕ
-stepsNumber (Steps n) = n
-stepsNumber Ill = refused 1
-
 -- The number of steps that passed, refusal 1, or refusal 10 and sixteen times the lowest step that does not follow.
 abbrev pub deskNumber : DeskAnswer → ℕ
-deskNumber unreadable = refused (number ill-formed-ledger)
+deskNumber unreadable = refused (number IllFormedLedger)
 deskNumber (judged (pass n)) = n
-deskNumber (judged (fail n)) = refused (number does-not-follow + 16 * n)
+deskNumber (judged (fail n)) = refused (number DoesNotFollow + 16 * n)
 
 -- The step, and 2^32 times the bytes of the (first) result, or the refusal.
 abbrev pub replyNumber : Door.Answer → ℕ
@@ -37,21 +28,21 @@ replyNumber (answered n []) = n
 replyNumber (answered n (m ∷ ms)) = n + 4294967296 * m .bytes
 replyNumber (Door.refused e) = refused (number e)
 
--- The length of what was read, or the refusal.
-abbrev pub lengthNumber : Outcome ℕ → ℕ
-lengthNumber (done n) = n
-lengthNumber (Reading.refused e) = refused (number e)
+-- A number of steps or of bytes, or the refusal.
+abbrev pub countNumber : Result ℕ → ℕ
+countNumber (done n) = n
+countNumber (Refusals.refused e) = refused (number e)
 
 -- d, 2^16 times the bytes of the first face and 2^32 times those of the second, or the refusal.
-abbrev pub claimNumber : Outcome Lengths → ℕ
+abbrev pub claimNumber : Result Lengths → ℕ
 claimNumber (done c) = c .dimensions + 65536 * c .left + 4294967296 * c .right
-claimNumber (Reading.refused e) = refused (number e)
+claimNumber (Refusals.refused e) = refused (number e)
 
 -- 1 where the ledgers repeat each other, 0 where not, or the refusal.
-abbrev pub repeatNumber : Said → ℕ
-repeatNumber (Repeats.answered true) = 1
-repeatNumber (Repeats.answered false) = 0
-repeatNumber (Repeats.refused n) = refused n
+abbrev pub repeatNumber : Result Bool → ℕ
+repeatNumber (done true) = 1
+repeatNumber (done false) = 0
+repeatNumber (Refusals.refused e) = refused (number e)
 
 -- Where a part of a ledger begins, and 2^32 times how many bytes it has.
 abbrev pub partNumber : ℕ → ℕ → ℕ
@@ -59,7 +50,7 @@ partNumber start len = start + 4294967296 * len
 
 -- The number of a reader, and every byte of its outputs, are those of what it delivers.
 pub record Reads (x : Delivered) (r : ℕ) (out′ : List ℕ) : Type 0 where
-  pub numbered : r ≡ lengthNumber (x .answer)
+  pub numbered : r ≡ countNumber (x .answer)
   pub output : out′ ≡ x .output
 
 pub record ReadsBoth (x : BothDelivered) (r : ℕ) (a′ b′ : List ℕ) : Type 0 where

@@ -1,6 +1,8 @@
 -- For private contracts: what fits into one number.
 use mathlib.Core.Path.{_≡_}
 use Prim.Native.Nat.{ℕ, _+_, _*_, _<_}
+use Rattle.refusals.specs.declared.Refusal.the-variants.{IllFormedLedger, DoesNotFollow}
+use Rattle.refusals.specs.Refusals.{number}
 use Rattle.formula.specs.declared.Size.{Size}
 use Rattle.replies.specs.declared.Made.{Made}
 use Rattle.replies.specs.declared.Made.the-variants.{Step}
@@ -24,6 +26,6 @@ pub record Low (v : Verdict) : Type 0 where
 
 -- The number of the desk's answer as the code gives it.
 abbrev pub verdictNumber : Verdict → ℕ
-verdictNumber Ill = refused 1
-verdictNumber (Fails n) = refused (10 + 16 * n)
+verdictNumber Ill = refused (number IllFormedLedger)
+verdictNumber (Fails n) = refused (number DoesNotFollow + 16 * n)
 verdictNumber (Passes n) = n

@@ -4,23 +4,23 @@ use ledger::Checked;
 use lookup::Part;
 use refusals::Refusal;
 use repeat_test::Compared;
-use replies::Answer;
+use replies::Called;
 use replies::Made;
 use text::Claim;
 use text::Length;
 ghost use mathlib.Core.Path.{_≡_};
 ghost use Prim.Native.Nat.{_<_};
 ghost use Rattle.calculus.specs.Door.{refused as refusedBy};
-ghost use Rattle.refusals.specs.Refusals.{refusalOf};
+ghost use Rattle.ledger.specs.Checks.{saidChecked};
 ghost use Rattle.replies.specs.Replying.{said, saidOne, saidBoth};
 ghost use Rattle.text.specs.Answers.{saidLength, saidClaim};
-ghost use Rattle.repeat_test.specs.Repeats.{inDocument};
-ghost use Rattle.numbers.specs.Answers.{stepsNumber, replyNumber, lengthNumber, claimNumber, repeatNumber, partNumber, isOne};
+ghost use Rattle.repeat_test.specs.Repeats.{said as saidRepeats};
+ghost use Rattle.numbers.specs.Answers.{replyNumber, countNumber, claimNumber, repeatNumber, partNumber, isOne};
 ghost use Rattle.numbers.specs.Packing.{Packs, ClaimFits, Low, verdictNumber};
 
 // Refusal q as -q.
 fn refused(e: Refusal) -> u64
-    ensures { λ r. ⌜ r ≡ replyNumber (refusedBy (refusalOf e)) ⌝ }
+    ensures { λ r. ⌜ r ≡ replyNumber (refusedBy e) ⌝ }
 {
     let q = refusals::number(e);
     18446744073709551615 - (q as u64 - 1)
@@ -28,21 +28,21 @@ fn refused(e: Refusal) -> u64
 
 // The number of steps of a ledger.
 pub fn checked(c: Checked) -> u64
-    ensures { λ r. ⌜ r ≡ stepsNumber c ⌝ }
+    ensures { λ r. ⌜ r ≡ countNumber (saidChecked c) ⌝ }
 {
     match c {
         Checked::Steps(n) => n as u64,
-        Checked::Ill => 18446744073709551615,
+        Checked::Ill => refused(Refusal::IllFormedLedger),
     }
 }
 
 // A call without results.
-pub fn answer(a: Answer) -> u64
+pub fn answer(a: Called) -> u64
     ensures { λ r. ⌜ r ≡ replyNumber (said a) ⌝ }
 {
     match a {
-        Answer::Step(n) => n as u64,
-        Answer::Refused(e) => refused(e),
+        Called::Step(n) => n as u64,
+        Called::Refused(e) => refused(e),
     }
 }
 
@@ -59,7 +59,7 @@ pub fn made(a: Made) -> u64
 
 // The length of a formula that was read.
 pub fn length(a: Length) -> u64
-    ensures { λ r. ⌜ r ≡ lengthNumber (saidLength a) ⌝ }
+    ensures { λ r. ⌜ r ≡ countNumber (saidLength a) ⌝ }
 {
     match a {
         Length::Bytes(n) => n as u64,
@@ -85,14 +85,14 @@ pub fn verdict(v: Verdict) -> u64
 {
     match v {
         Verdict::Passes(n) => n as u64,
-        Verdict::Ill => 18446744073709551615,
-        Verdict::Fails(n) => 18446744073709551606 - 16 * (n as u64),
+        Verdict::Ill => refused(Refusal::IllFormedLedger),
+        Verdict::Fails(n) => refused(Refusal::DoesNotFollow) - 16 * (n as u64),
     }
 }
 
 // Whether two ledgers repeat each other.
 pub fn compared(a: Compared) -> u64
-    ensures { λ r. ⌜ r ≡ repeatNumber (inDocument a) ⌝ }
+    ensures { λ r. ⌜ r ≡ repeatNumber (saidRepeats a) ⌝ }
 {
     match a {
         Compared::Repeats => 1,

@@ -12,11 +12,14 @@ use lib.Seq.{length-sets, sets-eq, take-at}
 use borrow.Author.Tests.{leb-true, le-leb, lt-leb}
 use Rattle.formula.specs.Formula.{End, lo, hi, Face, ff, Interval, i0}
 use Rattle.formula.specs.Operations.{boundary, forall, Op, shift, subst as substitute, transform}
-use Rattle.formula.specs.Bytes.{Tree, encode, encodeFace, encodeInterval, readAll, nodesFace, nodesInterval, boundFace, boundInterval}
-use Rattle.formula.specs.Answers.{pick, sizeOf, measuredAs, measured, keeps, treeOf}
-use Rattle.operations.specs.Results.{Kept, ill, over, kept, limited, asOperand, operand, ofOne, ofTwo, foralled, boundaried, transformed, sizedWith, sized, Answered, AnsweredBoth}
-use Rattle.passes.specs.Passes.{Token, tokens, tokensInterval, tokensOf, Whole, weighs, weightOf, zeroSize, plainSize, Small, spell, imageOf, Wrote, Rewritable, sides, endOf, Sided, plain, literal}
-use Rattle.operations.specs.Fitting.{resizedBy, hitSize, keptBytes, Fitting}
+use Rattle.refusals.specs.declared.Refusal.{Refusal}
+use Rattle.refusals.specs.declared.Refusal.the-variants.{NotAFormula, TooManyNodes, LargeDimension, LargeResult, ShortOutput}
+use Rattle.refusals.specs.Refusals.{Result, refused, done, map}
+use Rattle.formula.specs.Bytes.{Tree, encode, encodeFace, encodeInterval, readAll, nodes, nodesFace, nodesInterval, bound, boundFace, boundInterval, maxNodes, maxBound}
+use Rattle.formula.specs.Answers.{pick, sizeOf, saidMeasured, sizeRead, measurement, keeps, treeOf}
+use Rattle.operations.specs.Results.{saidSized, allowed, limited, asOperand, operand, ofOne, ofTwo, foralled, boundaried, transformed, Answered, AnsweredBoth}
+use Rattle.passes.specs.Rewriting.{Token, tokens, tokensInterval, tokensOf, Whole, weighs, weightOf, zeroSize, plainSize, Small, spell, imageOf, Wrote, Rewritable, sides, endOf, Sided, plain, literal}
+use Rattle.operations.specs.Fitting.{allowedSize, keptSize, resizedBy, hitSize, besideRefused, keptBytes, Fitting}
 use Rattle.formula.specs.declared.Sort.{Sort}
 use Rattle.formula.specs.declared.Sort.the-variants.{Faces, Intervals}
 use Rattle.formula.specs.declared.Size.{Size}
@@ -24,8 +27,7 @@ use Rattle.operations.specs.declared.Op.the-variants.{DShift, DSubst}
 use Rattle.formula.specs.declared.Measured.{Measured}
 use Rattle.formula.specs.declared.Measured.the-variants.{Formula, Ill}
 use Rattle.operations.specs.declared.Sized.{Sized}
-use Rattle.operations.specs.declared.Sized.the-variants.{Ill as ill-sized, Over as over-sized, Fits}
-use Rattle.operations.specs.declared.Outcome.the-variants.{Ill as ill-outcome, Over as over-outcome, Short, Done}
+use Rattle.operations.specs.declared.Sized.the-variants.{Fits, Refused}
 use Rattle.passes.specs.declared.Rule.{Rule}
 use Rattle.passes.specs.declared.Rule.the-variants.{Up, Down, Ends}
 use Rattle.formula.proofs.Reading.{encode-readAll}
@@ -46,56 +48,60 @@ limits-keep z h g = rw (le-leb (z .nodes) 511 h, le-leb (z .bound) 255 g)
 
 -- what a size says of what it is of
 module _ {A : Type 0} (f : A → Size) where
-  pub record FittedBy (x : Kept A) (z : Size) : Type 0 where
+  pub record FittedBy (x : Result A) (z : Size) : Type 0 where
     pub tree : A
-    pub is : x ≡ kept tree
+    pub is : x ≡ done tree
     pub size : f tree ≡ z
 
-  pub with-fits : (x : Kept A) (z : Size) → sizedWith f x ≡ Fits z → FittedBy x z
-  with-fits ill z e = absurd (let a : _≡_ {A = ℕ} 0 1 = cc in omega arith)
-  with-fits over z e = absurd (let a : _≡_ {A = ℕ} 0 1 = cc in omega arith)
-  with-fits (kept t) z e = record { tree = t; is = refl; size = fits-size e }
+  pub with-fits : (x : Result A) (z : Size) → map f x ≡ done z → FittedBy x z
+  with-fits (refused e) z i = absurd (let a : _≡_ {A = ℕ} 0 1 = cc in omega arith)
+  with-fits (done t) z i = record { tree = t; is = refl; size = done-same i }
     where
-      fits-size : {a b : Size} → Fits a ≡ Fits b → a ≡ b
-      fits-size e = cc
+      done-same : {a b : Size} → done a ≡ done b → a ≡ b
+      done-same e = cc
 
-  pub with-over : (x : Kept A) → sizedWith f x ≡ over-sized → x ≡ over
-  with-over ill e = cc
-  with-over over e = refl
-  with-over (kept t) e = cc
-
-  pub with-ill : (x : Kept A) → sizedWith f x ≡ ill-sized → x ≡ ill
-  with-ill ill e = refl
-  with-ill over e = cc
-  with-ill (kept t) e = cc
+  pub with-refused : (x : Result A) (e : Refusal) → map f x ≡ refused e → x ≡ refused e
+  with-refused (refused q) e i = ap refused (refused-same i)
+    where
+      refused-same : {q e : Refusal} → _≡_ {A = Result Size} (refused q) (refused e) → q ≡ e
+      refused-same i = cc
+  with-refused (done t) e i = cc
 
 module _ (s : Sort) where
-  abbrev pub Fitted : Kept (Tree s) → Size → Type 0
+  abbrev pub Fitted : Result (Tree s) → Size → Type 0
   Fitted x z = FittedBy (sizeOf s) x z
 
-  pub sized-fits : (x : Kept (Tree s)) (z : Size) → sized s x ≡ Fits z → Fitted x z
-  sized-fits x z e = with-fits (sizeOf s) x z e
+  -- What is said of a result that is answered, or refused.
+  pub sized-fits : (x : Result (Tree s)) {r : Sized} {z : Size} → saidSized r ≡ map (sizeOf s) x → r ≡ Fits z → Fitted x z
+  sized-fits x {z = z} e i = with-fits (sizeOf s) x z (sym e ∙ ap saidSized i)
 
-  pub sized-over : (x : Kept (Tree s)) → sized s x ≡ over-sized → x ≡ over
-  sized-over x e = with-over (sizeOf s) x e
+  pub sized-refused : (x : Result (Tree s)) {r : Sized} {q : Refusal} → saidSized r ≡ map (sizeOf s) x → r ≡ Refused q → x ≡ refused q
+  sized-refused x {q = q} e i = with-refused (sizeOf s) x q (sym e ∙ ap saidSized i)
 
-  pub sized-ill : (x : Kept (Tree s)) → sized s x ≡ ill-sized → x ≡ ill
-  sized-ill x e = with-ill (sizeOf s) x e
-
-  sized-limited : (t : Tree s) (z : Size) → sizeOf s t ≡ z → sized s (limited s t) ≡ pick (keeps z) (Fits z) over-sized
+  sized-limited : (t : Tree s) (z : Size) → sizeOf s t ≡ z → map (sizeOf s) (limited s t) ≡ keptSize z
   sized-limited t z e = rw (← e) (go (keeps (sizeOf s t)))
     where
-      go : (b : Bool) → sized s (pick b (kept t) over) ≡ pick b (Fits (sizeOf s t)) over-sized
+      go : (b : Bool) → map (sizeOf s) (pick b (done t) (refused LargeResult)) ≡ pick b (done (sizeOf s t)) (refused LargeResult)
       go true = refl
       go false = refl
 
   -- a formula that was kept keeps the limits
-  limited-kept : (t u : Tree s) → limited s t ≡ kept u → (t ≡ u) × (keeps (sizeOf s t) ≡ true)
+  limited-kept : (t u : Tree s) → limited s t ≡ done u → (t ≡ u) × (keeps (sizeOf s t) ≡ true)
   limited-kept t u e = go (keeps (sizeOf s t)) refl e
     where
-      go : (b : Bool) → keeps (sizeOf s t) ≡ b → pick b (kept t) over ≡ kept u → (t ≡ u) × (keeps (sizeOf s t) ≡ true)
+      go : (b : Bool) → keeps (sizeOf s t) ≡ b → pick b (done t) (refused LargeResult) ≡ done u → (t ≡ u) × (keeps (sizeOf s t) ≡ true)
       go true i e = (cc, i)
       go false i e = (cc, cc)
+
+  -- and so does an operand
+  allowed-kept : (t u : Tree s) → allowed s t ≡ done u → (t ≡ u) × (keeps (sizeOf s t) ≡ true)
+  allowed-kept t u e = go (leb (nodes s t) maxNodes) (leb (bound s t) maxBound) refl refl e
+    where
+      go : (b c : Bool) → leb (nodes s t) maxNodes ≡ b → leb (bound s t) maxBound ≡ c → pick b (pick c (done t) (refused LargeDimension)) (refused TooManyNodes) ≡ done u
+          → (t ≡ u) × (keeps (sizeOf s t) ≡ true)
+      go true true i j e = (cc, rw (i, j))
+      go true false i j e = (cc, cc)
+      go false c i j e = (cc, cc)
 
   -- An operand that was kept: its bytes are its formula's, and it keeps the limits.
   pub record Opened (l : List ℕ) (t : Tree s) : Type 0 where
@@ -103,18 +109,18 @@ module _ (s : Sort) where
     pub tree : treeOf s l ≡ t
     pub limits : keeps (sizeOf s t) ≡ true
 
-  opened-read : (l : List ℕ) (t : Tree s) (r : Option (Tree s)) → readAll s l ≡ r → asOperand s r ≡ kept t → Opened l t
+  opened-read : (l : List ℕ) (t : Tree s) (r : Option (Tree s)) → readAll s l ≡ r → asOperand s r ≡ done t → Opened l t
   unfolding treeOf
   opened-read l t none i e = absurd (let a : _≡_ {A = ℕ} 0 1 = cc in omega arith)
   opened-read l t (some u) i e =
-      let h = limited-kept u t e in
+      let h = allowed-kept u t e in
       record {
         bytes = encode-readAll s l u i ∙ ap (encode s) (h .0);
         tree = rw i (h .0);
         limits = ap (λ (x : Tree s). keeps (sizeOf s x)) (sym (h .0)) ∙ h .1;
       }
 
-  pub opened : (l : List ℕ) (t : Tree s) → operand s l ≡ kept t → Opened l t
+  pub opened : (l : List ℕ) (t : Tree s) → operand s l ≡ done t → Opened l t
   unfolding operand
   opened l t e = opened-read l t (readAll s l) refl e
 
@@ -127,44 +133,59 @@ module _ (s : Sort) where
       }
 
   -- the size of an operand from its measure
-  abbrev pub sizedBy : Measured → Sized
-  sizedBy Ill = ill-sized
-  sizedBy (Formula z) = pick (keeps z) (Fits z) over-sized
-
-  pub operand-sized : (l : List ℕ) → sized s (operand s l) ≡ sizedBy (measured s l)
-  unfolding operand measured
-  operand-sized l = go (readAll s l)
+  allowed-sized : (t : Tree s) → map (sizeOf s) (allowed s t) ≡ allowedSize (sizeOf s t)
+  allowed-sized t = go (leb (nodes s t) maxNodes) (leb (bound s t) maxBound)
     where
-      go : (r : Option (Tree s)) → sized s (asOperand s r) ≡ sizedBy (measuredAs s r)
-      go none = refl
-      go (some t) = sized-limited t (sizeOf s t) refl
+      go : (b c : Bool) → map (sizeOf s) (pick b (pick c (done t) (refused LargeDimension)) (refused TooManyNodes)) ≡ pick b (pick c (done (sizeOf s t)) (refused LargeDimension)) (refused TooManyNodes)
+      go true true = refl
+      go true false = refl
+      go false c = refl
+
+  -- questions 2 to 4 by what was measured
+  abbrev sizedBy : Measured → Result Size
+  sizedBy (Formula z) = allowedSize z
+  sizedBy Ill = refused NotAFormula
+
+  operand-read : (l : List ℕ) {m : Measured} {x : Measured} → saidMeasured m ≡ measurement s l → m ≡ x → map (sizeOf s) (operand s l) ≡ sizedBy x
+  unfolding operand measurement
+  operand-read l {m} {x} e i = go (readAll s l) x (sym e ∙ ap saidMeasured i)
+    where
+      go : (r : Option (Tree s)) (x : Measured) → sizeRead s r ≡ saidMeasured x → map (sizeOf s) (asOperand s r) ≡ sizedBy x
+      go none Ill e = refl
+      go none (Formula z) e = absurd (let a : _≡_ {A = ℕ} 0 1 = cc in omega arith)
+      go (some t) Ill e = absurd (let a : _≡_ {A = ℕ} 0 1 = cc in omega arith)
+      go (some t) (Formula z) e = allowed-sized t ∙ ap allowedSize (let h : sizeOf s t ≡ z = cc in h)
+
+  pub operand-sized : (l : List ℕ) {m : Measured} {z : Size} → saidMeasured m ≡ measurement s l → m ≡ Formula z → map (sizeOf s) (operand s l) ≡ allowedSize z
+  operand-sized l e i = operand-read l e i
+
+  pub operand-ill : (l : List ℕ) {m : Measured} → saidMeasured m ≡ measurement s l → m ≡ Ill → map (sizeOf s) (operand s l) ≡ refused NotAFormula
+  operand-ill l e i = operand-read l e i
 
   -- the size of a result by the weight of its operand's tokens
-  pub resized-kept : (rule : Rule) (hit : Size) (l : List ℕ) (t : Tree s) → operand s l ≡ kept t → (z : Size) → z ≡ weighs (weightOf s rule hit) (tokensOf s l)
-      → resizedBy s rule hit (operand s l) ≡ pick (keeps z) (Fits z) over-sized
+  pub resized-kept : (rule : Rule) (hit : Size) (l : List ℕ) (t : Tree s) → operand s l ≡ done t → (z : Size) → z ≡ weighs (weightOf s rule hit) (tokensOf s l)
+      → resizedBy s rule hit (operand s l) ≡ keptSize z
   resized-kept rule hit l t e z i =
       let k : z ≡ weighs (weightOf s rule hit) (tokens s t) = i ∙ ap (λ (u : Tree s). weighs (weightOf s rule hit) (tokens s u)) (opened l t e .tree) in
       rw (e, k)
 
 -- the same as the size of a result of one operand
 module _ (s s′ : Sort) (m : Tree s → Tree s′) (rule : Rule) (hit : Size) (w : (t : Tree s) → sizeOf s′ (m t) ≡ weighs (weightOf s rule hit) (tokens s t)) where
-  pub resized-one : (x : Kept (Tree s)) → sized s′ (ofOne (λ t. limited s′ (m t)) x) ≡ resizedBy s rule hit x
-  resized-one ill = refl
-  resized-one over = refl
-  resized-one (kept t) = sized-limited s′ (m t) (weighs (weightOf s rule hit) (tokens s t)) (w t)
+  pub resized-one : (x : Result (Tree s)) → map (sizeOf s′) (ofOne (λ t. limited s′ (m t)) x) ≡ resizedBy s rule hit x
+  resized-one (refused e) = refl
+  resized-one (done t) = sized-limited s′ (m t) (weighs (weightOf s rule hit) (tokens s t)) (w t)
 
 -- where a result of one operand was kept, so was the operand
 module _ (s s′ : Sort) (m : Tree s → Tree s′) where
-  pub record Came (x : Kept (Tree s)) (u : Tree s′) : Type 0 where
+  pub record Came (x : Result (Tree s)) (u : Tree s′) : Type 0 where
     pub from : Tree s
-    pub is : x ≡ kept from
+    pub is : x ≡ done from
     pub result : m from ≡ u
     pub limits : keeps (sizeOf s′ (m from)) ≡ true
 
-  pub came : (x : Kept (Tree s)) (u : Tree s′) → ofOne (λ t. limited s′ (m t)) x ≡ kept u → Came x u
-  came ill u e = absurd (let a : _≡_ {A = ℕ} 0 1 = cc in omega arith)
-  came over u e = absurd (let a : _≡_ {A = ℕ} 0 1 = cc in omega arith)
-  came (kept t) u e = let h = limited-kept s′ (m t) u e in record { from = t; is = refl; result = h .0; limits = h .1 }
+  pub came : (x : Result (Tree s)) (u : Tree s′) → ofOne (λ t. limited s′ (m t)) x ≡ done u → Came x u
+  came (refused q) u e = absurd (let a : _≡_ {A = ℕ} 0 1 = cc in omega arith)
+  came (done t) u e = let h = limited-kept s′ (m t) u e in record { from = t; is = refl; result = h .0; limits = h .1 }
 
 ff-size : sizeOf Faces ff ≡ plainSize
 unfolding encodeFace nodesFace boundFace
@@ -184,57 +205,53 @@ unfolding boundary encodeFace nodesFace boundFace encodeInterval nodesInterval b
 i0-hit Faces = refl
 i0-hit Intervals = refl
 
-pub forall-resized : (k : ℕ) (l : List ℕ) → sized Faces (foralled k l) ≡ resizedBy Faces (Down k) plainSize (operand Faces l)
+pub forall-resized : (k : ℕ) (l : List ℕ) → map (sizeOf Faces) (foralled k l) ≡ resizedBy Faces (Down k) plainSize (operand Faces l)
 unfolding foralled
 forall-resized k l =
     resized-one Faces Faces (forall k) (Down k) plainSize (pass-size Faces (forall k) (Down k) (λ b. ff) (forall-pass k) plainSize (λ b. ff-size)) (operand Faces l)
 
-pub boundary-resized : (l : List ℕ) → sized Faces (boundaried lo l) ≡ resizedBy Intervals Ends zeroSize (operand Intervals l)
+pub boundary-resized : (l : List ℕ) → map (sizeOf Faces) (boundaried lo l) ≡ resizedBy Intervals Ends zeroSize (operand Intervals l)
 unfolding boundaried
 boundary-resized l = resized-one Intervals Faces (boundary lo) Ends zeroSize (boundary-weighs lo) (operand Intervals l)
 
 transform-size : (s : Sort) (o : Op) (t : Tree s) → sizeOf s (transform s o t) ≡ weighs (weightOf s (ruleOf o) (hitOf s (replacement o))) (tokens s t)
 transform-size s o = pass-size s (transform s o) (ruleOf o) (hitsOf s (replacement o)) (transform-pass s o) (hitOf s (replacement o)) (hit-sizes s (replacement o))
 
-pub shift-resized : (s : Sort) (k : ℕ) (l r : List ℕ) → sized s (transformed s (DShift k) l r) ≡ resizedBy s (Up k) plainSize (operand s l)
+pub shift-resized : (s : Sort) (k : ℕ) (l r : List ℕ) → map (sizeOf s) (transformed s (DShift k) l r) ≡ resizedBy s (Up k) plainSize (operand s l)
 unfolding transformed
 shift-resized s k l r =
     resized-one s s (transform s (shift k)) (Up k) plainSize
     (λ t. transform-size s (shift k) t ∙ ap (λ (z : Size). weighs (weightOf s (Up k) z) (tokens s t)) (i0-hit s))
     (operand s l)
 
-boundary-limited : (r : Interval) → keeps (sizeOf Intervals r) ≡ true → limited Faces (boundary lo r) ≡ kept (boundary lo r)
+boundary-limited : (r : Interval) → keeps (sizeOf Intervals r) ≡ true → limited Faces (boundary lo r) ≡ done (boundary lo r)
 boundary-limited r e =
     let k = keeps-limits (sizeOf Intervals r) e in
     let h = boundary-smaller lo r in
     rw (limits-keep (sizeOf Faces (boundary lo r)) (omega (arith, h .nodes)) (omega (arith, h .bound)))
 
 -- an operand that is kept keeps the limits
-pub operand-keeps : (s : Sort) (l : List ℕ) (t : Tree s) → operand s l ≡ kept t → keeps (sizeOf s t) ≡ true
+pub operand-keeps : (s : Sort) (l : List ℕ) (t : Tree s) → operand s l ≡ done t → keeps (sizeOf s t) ≡ true
 operand-keeps s l t e = opened s l t e .limits
 
 -- a replacement that is kept is kept on both sides of its boundary
-hit-with : (s : Sort) (l : List ℕ) → hitSize s (operand Intervals l) ≡ sizedWith (hitOf s) (operand Intervals l)
+hit-with : (s : Sort) (l : List ℕ) → hitSize s (operand Intervals l) ≡ map (hitOf s) (operand Intervals l)
 hit-with Faces l = go (operand Intervals l) refl
   where
-    go : (x : Kept Interval) → operand Intervals l ≡ x → hitSize Faces x ≡ sizedWith (hitOf Faces) x
-    go ill i = refl
-    go over i = refl
-    go (kept r) i = ap (sized Faces) (boundary-limited r (operand-keeps Intervals l r i))
+    go : (x : Result Interval) → operand Intervals l ≡ x → hitSize Faces x ≡ map (hitOf Faces) x
+    go (refused e) i = refl
+    go (done r) i = ap (map (sizeOf Faces)) (boundary-limited r (operand-keeps Intervals l r i))
 hit-with Intervals l = refl
 
 -- a replacement that was kept
-abbrev pub Replacing : Sort → Kept Interval → Size → Type 0
+abbrev pub Replacing : Sort → Result Interval → Size → Type 0
 Replacing s x z = FittedBy (hitOf s) x z
 
-pub hit-fits : (s : Sort) (l : List ℕ) (z : Size) → hitSize s (operand Intervals l) ≡ Fits z → Replacing s (operand Intervals l) z
-hit-fits s l z e = with-fits (hitOf s) (operand Intervals l) z (sym (hit-with s l) ∙ e)
+pub hit-fits : (s : Sort) (l : List ℕ) {r : Sized} {z : Size} → saidSized r ≡ hitSize s (operand Intervals l) → r ≡ Fits z → Replacing s (operand Intervals l) z
+hit-fits s l {z = z} e i = with-fits (hitOf s) (operand Intervals l) z (sym (hit-with s l) ∙ sym e ∙ ap saidSized i)
 
-pub hit-over : (s : Sort) (l : List ℕ) → hitSize s (operand Intervals l) ≡ over-sized → operand Intervals l ≡ over
-hit-over s l e = with-over (hitOf s) (operand Intervals l) (sym (hit-with s l) ∙ e)
-
-pub hit-ill : (s : Sort) (l : List ℕ) → hitSize s (operand Intervals l) ≡ ill-sized → operand Intervals l ≡ ill
-hit-ill s l e = with-ill (hitOf s) (operand Intervals l) (sym (hit-with s l) ∙ e)
+pub hit-refused : (s : Sort) (l : List ℕ) {r : Sized} {q : Refusal} → saidSized r ≡ hitSize s (operand Intervals l) → r ≡ Refused q → operand Intervals l ≡ refused q
+hit-refused s l {q = q} e i = with-refused (hitOf s) (operand Intervals l) q (sym (hit-with s l) ∙ sym e ∙ ap saidSized i)
 
 pub hit-small : (s : Sort) (l : List ℕ) (z : Size) → Replacing s (operand Intervals l) z → Small z
 hit-small s l z h = subst Small (h .size) (go s)
@@ -247,68 +264,49 @@ hit-small s l z h = subst Small (h .size) (go s)
     go Intervals = record { len = omega (arith, len-short Intervals (h .tree), k .0); nodes = k .0 }
 
 -- a result of two operands, the second known
-two-kept : {A B C : Type 0} (f : A → B → Kept C) (x : Kept A) (b : B) → ofTwo f x (kept b) ≡ ofOne (λ a. f a b) x
-two-kept f ill b = refl
-two-kept f over b = refl
-two-kept f (kept a) b = refl
-
-two-ill : {A B C : Type 0} (f : A → B → Kept C) (x : Kept A) → ofTwo f x ill ≡ ill
-two-ill f ill = refl
-two-ill f over = refl
-two-ill f (kept a) = refl
-
-abbrev pub overSized : Sized → Sized
-overSized ill-sized = ill-sized
-overSized over-sized = over-sized
-overSized (Fits z) = over-sized
+two-kept : {A B C : Type 0} (f : A → B → Result C) (x : Result A) (b : B) → ofTwo f x (done b) ≡ ofOne (λ a. f a b) x
+two-kept f (refused e) b = refl
+two-kept f (done a) b = refl
 
 module _ (s : Sort) (k : ℕ) (l r : List ℕ) where
-  subst-one : (q : Interval) → operand Intervals r ≡ kept q → transformed s (DSubst k) l r ≡ ofOne (λ t. limited s (transform s (substitute k q) t)) (operand s l)
+  subst-one : (q : Interval) → operand Intervals r ≡ done q → transformed s (DSubst k) l r ≡ ofOne (λ t. limited s (transform s (substitute k q) t)) (operand s l)
   unfolding transformed
   subst-one q e = rw e (two-kept (λ t q. limited s (transform s (substitute k q) t)) (operand s l) q)
 
-  pub subst-resized : (z : Size) → Replacing s (operand Intervals r) z → sized s (transformed s (DSubst k) l r) ≡ resizedBy s (Down k) z (operand s l)
+  pub subst-resized : (z : Size) → Replacing s (operand Intervals r) z → map (sizeOf s) (transformed s (DSubst k) l r) ≡ resizedBy s (Down k) z (operand s l)
   subst-resized z h =
-      ap (sized s) (subst-one (h .tree) (h .is))
+      ap (map (sizeOf s)) (subst-one (h .tree) (h .is))
       ∙ resized-one s s (transform s (substitute k (h .tree))) (Down k) z
       (λ t. transform-size s (substitute k (h .tree)) t ∙ ap (λ (x : Size). weighs (weightOf s (Down k) x) (tokens s t)) (h .size))
       (operand s l)
 
-  pub subst-over : operand Intervals r ≡ over → sized s (transformed s (DSubst k) l r) ≡ overSized (sized s (operand s l))
+  pub subst-refused : {q : Refusal} → operand Intervals r ≡ refused q → map (sizeOf s) (transformed s (DSubst k) l r) ≡ besideRefused q (map (sizeOf s) (operand s l))
   unfolding transformed
-  subst-over e = rw e (go (operand s l))
+  subst-refused {q} e = rw e (go (operand s l))
     where
-      go : (x : Kept (Tree s)) → sized s (ofTwo (λ t q. limited s (transform s (substitute k q) t)) x over) ≡ overSized (sized s x)
-      go ill = refl
-      go over = refl
-      go (kept t) = refl
-
-  pub subst-ill : operand Intervals r ≡ ill → sized s (transformed s (DSubst k) l r) ≡ ill-sized
-  unfolding transformed
-  subst-ill e = rw e (ap (sized s) (two-ill (λ t q. limited s (transform s (substitute k q) t)) (operand s l)))
+      go : (x : Result (Tree s)) → map (sizeOf s) (ofTwo (λ t q. limited s (transform s (substitute k q) t)) x (refused q)) ≡ besideRefused q (map (sizeOf s) x)
+      go (refused e) = refl
+      go (done t) = refl
 
 -- a run of stores from the front
 front-stored : (d b : List ℕ) (r : ℕ) (d′ : List ℕ) → length b ≤ length d → Wrote d 0 b r d′ → d′ ≡ b ++ drop (length b) d
 front-stored d b r d′ h w = w .stored ∙ sets-eq b d 0 (omega arith) ∙ ap (λ (n : ℕ). b ++ drop n d) (zero-add (length b))
 
 -- an answer with what it leaves
-module _ (s : Sort) (x : Kept (Tree s)) (d : List ℕ) where
-  pub answered-ill : x ≡ ill → Answered s x d ill-outcome d
-  answered-ill e = record { says = rw e; leaves = rw e }
+module _ (s : Sort) (x : Result (Tree s)) (d : List ℕ) where
+  pub answered-refused : {q : Refusal} → x ≡ refused q → Answered s x d (Refused q) d
+  answered-refused e = record { says = rw e; leaves = rw e }
 
-  pub answered-over : x ≡ over → Answered s x d over-outcome d
-  answered-over e = record { says = rw e; leaves = rw e }
-
-  pub answered-short : (z : Size) → Fitted s x z → length d < z .len → Answered s x d (Short z) d
+  pub answered-short : (z : Size) → Fitted s x z → length d < z .len → Answered s x d (Refused ShortOutput) d
   answered-short z f h =
       let k : leb (length (encode s (f .tree))) (length d) ≡ false = lt-leb (length (encode s (f .tree))) (length d) (omega (arith, ap (λ (y : Size). y .len) (f .size))) in
-      record { says = rw (f .is, k) (ap Short (sym (f .size))); leaves = rw (f .is, k) }
+      record { says = rw (f .is, k); leaves = rw (f .is, k) }
 
-  pub answered-done : (z : Size) (f : Fitted s x z) → z .len ≤ length d → (r : ℕ) (d′ : List ℕ) → Wrote d 0 (encode s (f .tree)) r d′ → Answered s x d (Done z) d′
+  pub answered-done : (z : Size) (f : Fitted s x z) → z .len ≤ length d → (r : ℕ) (d′ : List ℕ) → Wrote d 0 (encode s (f .tree)) r d′ → Answered s x d (Fits z) d′
   answered-done z f h r d′ w =
       let g : length (encode s (f .tree)) ≤ length d = omega (arith, ap (λ (y : Size). y .len) (f .size)) in
       let k : leb (length (encode s (f .tree))) (length d) ≡ true = le-leb (length (encode s (f .tree))) (length d) g in
-      record { says = rw (f .is, k) (ap Done (sym (f .size))); leaves = rw (f .is, k) (front-stored d (encode s (f .tree)) r d′ g w) }
+      record { says = rw (f .is, k) (ap done (sym (f .size))); leaves = rw (f .is, k) (front-stored d (encode s (f .tree)) r d′ g w) }
 
 -- what a pass needs, and the bytes that it gives
 module _ (s : Sort) (m : Tree s → Tree s) (rule : Rule) (hits : ℕ → Tree s) (p : Pass s m rule hits) (hit : Size) (sizes : (b : ℕ) → sizeOf s (hits b) ≡ hit)
@@ -336,9 +334,9 @@ ff-bytes b = go (eqb b 3)
     go true = refl
     go false = refl
 
-module _ (k : ℕ) (l : List ℕ) (z : Size) (e : sized Faces (foralled k l) ≡ Fits z) where
+module _ (k : ℕ) (l : List ℕ) {r : Sized} {z : Size} (e : saidSized r ≡ map (sizeOf Faces) (foralled k l)) (i : r ≡ Fits z) where
   pub forall-fitted : Fitted Faces (foralled k l) z
-  forall-fitted = sized-fits Faces (foralled k l) z e
+  forall-fitted = sized-fits Faces (foralled k l) e i
 
   forall-came : Came Faces Faces (forall k) (operand Faces l) (forall-fitted .tree)
   unfolding foralled
@@ -358,7 +356,7 @@ module _ (k : ℕ) (l : List ℕ) (z : Size) (e : sized Faces (foralled k l) ≡
       ∙ ap encodeFace (forall-came .result)
 
 -- the sides of an expression that was kept
-module _ (l : List ℕ) (r : Interval) (e : operand Intervals l ≡ kept r) where
+module _ (l : List ℕ) (r : Interval) (e : operand Intervals l ≡ done r) where
   pub kept-side : (d : End) → sides (tokensOf Intervals l) (d ∷ []) ≡ encodeFace (boundary d r)
   kept-side d = ap (λ (q : Interval). sides (tokensInterval q) (d ∷ [])) (opened Intervals l r e .tree) ∙ sides-whole r d
 
@@ -377,9 +375,9 @@ module _ (l : List ℕ) (r : Interval) (e : operand Intervals l ≡ kept r) wher
       omega (arith, len-short Faces (boundary d r), h .nodes, k .0)
 
 -- a boundary whose sizes are known
-module _ (l : List ℕ) (z : Size) (e : sized Faces (boundaried lo l) ≡ Fits z) where
+module _ (l : List ℕ) {r : Sized} {z : Size} (e : saidSized r ≡ map (sizeOf Faces) (boundaried lo l)) (i : r ≡ Fits z) where
   pub zero-fitted : Fitted Faces (boundaried lo l) z
-  zero-fitted = sized-fits Faces (boundaried lo l) z e
+  zero-fitted = sized-fits Faces (boundaried lo l) e i
 
   boundary-came : Came Intervals Faces (boundary lo) (operand Intervals l) (zero-fitted .tree)
   unfolding boundaried
@@ -410,53 +408,46 @@ module _ (l : List ℕ) (z : Size) (e : sized Faces (boundaried lo l) ≡ Fits z
       let k : sizeOf Faces (boundary (endOf n) whence) ≡ z = boundary-sizes (endOf n) lo whence ∙ ap (sizeOf Faces) (boundary-came .result) ∙ zero-fitted .size in
       kept-sided l whence (boundary-came .is) n h room (omega (arith, ap (λ (y : Size). y .len) k))
 
-boundary-alike : (l : List ℕ) → sized Faces (boundaried lo l) ≡ sized Faces (boundaried hi l)
+boundary-alike : (l : List ℕ) → map (sizeOf Faces) (boundaried lo l) ≡ map (sizeOf Faces) (boundaried hi l)
 unfolding boundaried
 boundary-alike l = go (operand Intervals l)
   where
-    go : (x : Kept Interval) → sized Faces (ofOne (λ r. limited Faces (boundary lo r)) x) ≡ sized Faces (ofOne (λ r. limited Faces (boundary hi r)) x)
-    go ill = refl
-    go over = refl
-    go (kept r) = sized-limited Faces (boundary lo r) (sizeOf Faces (boundary hi r)) (boundary-sizes lo hi r) ∙ sym (sized-limited Faces (boundary hi r) (sizeOf Faces (boundary hi r)) refl)
+    go : (x : Result Interval) → map (sizeOf Faces) (ofOne (λ r. limited Faces (boundary lo r)) x) ≡ map (sizeOf Faces) (ofOne (λ r. limited Faces (boundary hi r)) x)
+    go (refused e) = refl
+    go (done r) = sized-limited Faces (boundary lo r) (sizeOf Faces (boundary hi r)) (boundary-sizes lo hi r) ∙ sym (sized-limited Faces (boundary hi r) (sizeOf Faces (boundary hi r)) refl)
 
-module _ (l d e : List ℕ) where
-  pub both-over : sized Faces (boundaried lo l) ≡ over-sized → AnsweredBoth (boundaried lo l) (boundaried hi l) d e over-outcome d e
-  both-over i =
-      let a = sized-over Faces (boundaried lo l) i in
-      let b = sized-over Faces (boundaried hi l) (sym (boundary-alike l) ∙ i) in
+module _ (l d e : List ℕ) {r : Sized} (j : saidSized r ≡ map (sizeOf Faces) (boundaried lo l)) where
+  pub both-refused : {q : Refusal} → r ≡ Refused q → AnsweredBoth (boundaried lo l) (boundaried hi l) d e (Refused q) d e
+  both-refused i =
+      let a = sized-refused Faces (boundaried lo l) j i in
+      let b = sized-refused Faces (boundaried hi l) (j ∙ boundary-alike l) i in
       record { says = rw a; leaves0 = rw a; leaves1 = rw b }
 
-  pub both-ill : sized Faces (boundaried lo l) ≡ ill-sized → AnsweredBoth (boundaried lo l) (boundaried hi l) d e ill-outcome d e
-  both-ill i =
-      let a = sized-ill Faces (boundaried lo l) i in
-      let b = sized-ill Faces (boundaried hi l) (sym (boundary-alike l) ∙ i) in
-      record { says = rw a; leaves0 = rw a; leaves1 = rw b }
-
-  module _ (z : Size) (i : sized Faces (boundaried lo l) ≡ Fits z) where
+  module _ {z : Size} (i : r ≡ Fits z) where
     abbrev f : Fitted Faces (boundaried lo l) z
-    f = zero-fitted l z i
+    f = zero-fitted l j i
 
     abbrev g : Fitted Faces (boundaried hi l) z
-    g = one-fitted l z i
+    g = one-fitted l j i
 
     abbrev lens : (x : Face) → sizeOf Faces x ≡ z → length (encodeFace x) ≡ z .len
     lens x e = ap (λ (y : Size). y .len) e
 
-    pub both-short : min (length d) (length e) < z .len → AnsweredBoth (boundaried lo l) (boundaried hi l) d e (Short z) d e
+    pub both-short : min (length d) (length e) < z .len → AnsweredBoth (boundaried lo l) (boundaried hi l) d e (Refused ShortOutput) d e
     both-short h =
         let a : leb (length (encodeFace (f .tree))) (min (length d) (length e)) ≡ false = lt-leb (length (encodeFace (f .tree))) (min (length d) (length e)) (omega (arith, lens (f .tree) (f .size))) in
         let b : leb (length (encodeFace (g .tree))) (min (length d) (length e)) ≡ false = lt-leb (length (encodeFace (g .tree))) (min (length d) (length e)) (omega (arith, lens (g .tree) (g .size))) in
-        record { says = rw (f .is, a) (ap Short (sym (f .size))); leaves0 = rw (f .is, a); leaves1 = rw (g .is, b) }
+        record { says = rw (f .is, a); leaves0 = rw (f .is, a); leaves1 = rw (g .is, b) }
 
     pub both-done : z .len ≤ length d → z .len ≤ length e → (m n : ℕ) (d′ e′ : List ℕ) → Wrote d 0 (sides (tokensOf Intervals l) (lo ∷ [])) m d′ → Wrote e 0 (sides (tokensOf Intervals l) (hi ∷ [])) n e′
-        → AnsweredBoth (boundaried lo l) (boundaried hi l) d e (Done z) d′ e′
+        → AnsweredBoth (boundaried lo l) (boundaried hi l) d e (Fits z) d′ e′
     both-done h k m n d′ e′ v w =
         let a : leb (length (encodeFace (f .tree))) (min (length d) (length e)) ≡ true = le-leb (length (encodeFace (f .tree))) (min (length d) (length e)) (omega (arith, lens (f .tree) (f .size))) in
         let b : leb (length (encodeFace (g .tree))) (min (length d) (length e)) ≡ true = le-leb (length (encodeFace (g .tree))) (min (length d) (length e)) (omega (arith, lens (g .tree) (g .size))) in
         record {
-          says = rw (f .is, a) (ap Done (sym (f .size)));
-          leaves0 = rw (f .is, a) (front-stored d (encodeFace (f .tree)) m d′ (omega (arith, lens (f .tree) (f .size))) (wrote-as (zero-side l z i) v));
-          leaves1 = rw (g .is, b) (front-stored e (encodeFace (g .tree)) n e′ (omega (arith, lens (g .tree) (g .size))) (wrote-as (one-side l z i) w));
+          says = rw (f .is, a) (ap done (sym (f .size)));
+          leaves0 = rw (f .is, a) (front-stored d (encodeFace (f .tree)) m d′ (omega (arith, lens (f .tree) (f .size))) (wrote-as (zero-side l j i) v));
+          leaves1 = rw (g .is, b) (front-stored e (encodeFace (g .tree)) n e′ (omega (arith, lens (g .tree) (g .size))) (wrote-as (one-side l j i) w));
         }
 
 -- the bytes that replace a literal, by its side
@@ -487,7 +478,7 @@ spell-up k u v x y [] = refl
 spell-up k u v x y (t ∷ ts) = ap₂ (λ (a b : List ℕ). a ++ b) (up-image k u v x y t) (spell-up k u v x y ts)
 
 -- a transformed formula that was kept, by its one operand
-module _ (s : Sort) (o : Op) (l : List ℕ) (x : Kept (Tree s)) (e : x ≡ ofOne (λ t. limited s (transform s o t)) (operand s l)) (n : ℕ) (f : Fitting s x n) where
+module _ (s : Sort) (o : Op) (l : List ℕ) (x : Result (Tree s)) (e : x ≡ ofOne (λ t. limited s (transform s o t)) (operand s l)) (n : ℕ) (f : Fitting s x n) where
   transform-came : Came s s (transform s o) (operand s l) (f .tree)
   transform-came = came s s (transform s o) (operand s l) (f .tree) (sym e ∙ f .is)
 
@@ -528,20 +519,16 @@ module _ (s : Sort) (k : ℕ) (l r : List ℕ) (n : ℕ) (f : Fitting s (transfo
 module _ (s : Sort) (k : ℕ) (l r : List ℕ) (n : ℕ) (f : Fitting s (transformed s (DSubst k) l r) n) where
   pub record By : Type 0 where
     pub interval : Interval
-    pub is : operand Intervals r ≡ kept interval
+    pub is : operand Intervals r ≡ done interval
 
   pub subst-by : By
   unfolding transformed
   subst-by = go (operand s l) (operand Intervals r) refl (f .is)
     where
-      go : (x : Kept (Tree s)) (y : Kept Interval) → operand Intervals r ≡ y → ofTwo (λ t q. limited s (transform s (substitute k q) t)) x y ≡ kept (f .tree) → By
-      go x (kept q) i e = record { interval = q; is = i }
-      go ill ill i e = absurd (let a : _≡_ {A = ℕ} 0 1 = cc in omega arith)
-      go ill over i e = absurd (let a : _≡_ {A = ℕ} 0 1 = cc in omega arith)
-      go over ill i e = absurd (let a : _≡_ {A = ℕ} 0 1 = cc in omega arith)
-      go over over i e = absurd (let a : _≡_ {A = ℕ} 0 1 = cc in omega arith)
-      go (kept t) ill i e = absurd (let a : _≡_ {A = ℕ} 0 1 = cc in omega arith)
-      go (kept t) over i e = absurd (let a : _≡_ {A = ℕ} 0 1 = cc in omega arith)
+      go : (x : Result (Tree s)) (y : Result Interval) → operand Intervals r ≡ y → ofTwo (λ t q. limited s (transform s (substitute k q) t)) x y ≡ done (f .tree) → By
+      go x (done q) i e = record { interval = q; is = i }
+      go (refused a) (refused b) i e = absurd (let a : _≡_ {A = ℕ} 0 1 = cc in omega arith)
+      go (done t) (refused b) i e = absurd (let a : _≡_ {A = ℕ} 0 1 = cc in omega arith)
 
   abbrev q : Interval
   q = subst-by .interval
@@ -562,10 +549,10 @@ pub wrote-front : (d b : List ℕ) (r : ℕ) (d′ : List ℕ) → length b ≤ 
 wrote-front d b r d′ h w = ap (take r) (front-stored d b r d′ h w) ∙ take-at b (drop (length b) d) r (omega (arith, w .next))
 
 -- a result that was kept, with room
-pub fitting : (s : Sort) (x : Kept (Tree s)) (z : Size) (n : ℕ) → Fitted s x z → z .len ≤ n → Fitting s x n
+pub fitting : (s : Sort) (x : Result (Tree s)) (z : Size) (n : ℕ) → Fitted s x z → z .len ≤ n → Fitting s x n
 fitting s x z n f h = record { tree = f .tree; is = f .is; room = omega (arith, ap (λ (y : Size). y .len) (f .size)) }
 
-pub answered-kept : (s : Sort) (x : Kept (Tree s)) (d : List ℕ) (z : Size) → Fitted s x z → z .len ≤ length d → (r : ℕ) (d′ : List ℕ) → Wrote d 0 (keptBytes s x) r d′ → Answered s x d (Done z) d′
+pub answered-kept : (s : Sort) (x : Result (Tree s)) (d : List ℕ) (z : Size) → Fitted s x z → z .len ≤ length d → (r : ℕ) (d′ : List ℕ) → Wrote d 0 (keptBytes s x) r d′ → Answered s x d (Fits z) d′
 answered-kept s x d z f h r d′ w = answered-done s x d z f h r d′ (wrote-as (ap (keptBytes s) (f .is)) w)
 
 -- a side that was written into a scratch array is its front
@@ -574,7 +561,7 @@ pub record There (n : ℕ) (b d : List ℕ) : Type 0 where
   pub count : n ≡ length (take n d)
   pub bytes : b ≡ take n d
 
-pub side-there : (l : List ℕ) (r : Interval) → operand Intervals l ≡ kept r → (n m : ℕ) (d : List ℕ) → Wrote (replicate 1024 0) 0 (sides (tokensOf Intervals l) (endOf n ∷ [])) m d
+pub side-there : (l : List ℕ) (r : Interval) → operand Intervals l ≡ done r → (n m : ℕ) (d : List ℕ) → Wrote (replicate 1024 0) 0 (sides (tokensOf Intervals l) (endOf n ∷ [])) m d
     → There m (encodeFace (boundary (endOf n) r)) d
 side-there l r e n m d w =
     let x : Wrote (replicate 1024 0) 0 (encodeFace (boundary (endOf n) r)) m d = wrote-as (kept-side l r e (endOf n)) w in

@@ -9,7 +9,7 @@ use Rattle.formula.specs.Formula.{End, lo, hi, ff, at, fand, for, Interval, i0,
 use Rattle.formula.specs.Operations.{boundary, forall, Op, shift, subst as substitute, dimTo, itransform, ftransform, transform}
 use Rattle.formula.specs.Bytes.{Tree, encode, encodeFace, Node, leaf, lit, one, two, bad, nodeOf, nodes, nodesFace, nodesInterval, bound, boundFace, boundInterval}
 use Rattle.formula.specs.Answers.{pick, sizeOf, kindOf}
-use Rattle.passes.specs.Passes.{Token, plain, literal, tokens, tokensInterval, movedTo, _⊕_, zeroSize, plainSize, weighs, plainWeight, movedWeight, weightOf, spell, movedBytes, imageOf, AllTokens, Fielded, FieldedAt}
+use Rattle.passes.specs.Rewriting.{Token, plain, literal, tokens, tokensInterval, movedTo, _⊕_, zeroSize, plainSize, weighs, plainWeight, movedWeight, weightOf, spell, movedBytes, imageOf, AllTokens, Fielded, FieldedAt}
 use Rattle.formula.specs.declared.Sort.{Sort}
 use Rattle.formula.specs.declared.Sort.the-variants.{Faces, Intervals}
 use Rattle.formula.specs.declared.Size.{Size}

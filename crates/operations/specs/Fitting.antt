@@ -2,38 +2,50 @@
 use Prim.Native.Nat.{ℕ, _≤_}
 use mathlib.Core.Path.{_≡_}
 use mathlib.Core.List.{List, []}
+use lib.Dec.{leb}
 use lib.ListN.{length}
+use Rattle.refusals.specs.declared.Refusal.{Refusal}
+use Rattle.refusals.specs.declared.Refusal.the-variants.{TooManyNodes, LargeDimension, LargeResult}
+use Rattle.refusals.specs.Refusals.{earlier, Result, refused, done, map}
 use Rattle.formula.specs.Formula.{lo, Interval}
 use Rattle.formula.specs.Operations.{boundary}
-use Rattle.formula.specs.Bytes.{Tree, encode}
-use Rattle.formula.specs.Answers.{pick, keeps}
+use Rattle.formula.specs.Bytes.{Tree, encode, maxNodes, maxBound}
+use Rattle.formula.specs.Answers.{pick, sizeOf, keeps}
 use Rattle.formula.specs.declared.Sort.{Sort}
 use Rattle.formula.specs.declared.Sort.the-variants.{Faces, Intervals}
 use Rattle.formula.specs.declared.Size.{Size}
-use Rattle.passes.specs.Passes.{tokens, weighs, weightOf}
+use Rattle.passes.specs.Rewriting.{tokens, weighs, weightOf}
 use Rattle.passes.specs.declared.Rule.{Rule}
-use Rattle.operations.specs.Results.{Kept, ill, over, kept, limited, ofOne, sized}
-use Rattle.operations.specs.declared.Sized.{Sized}
-use Rattle.operations.specs.declared.Sized.the-variants.{Ill as ill-sized, Over as over-sized, Fits}
+use Rattle.operations.specs.Results.{limited, ofOne}
+
+-- questions 3 and 4 of a size, and question 5
+abbrev pub allowedSize : Size → Result Size
+allowedSize z = pick (leb (z .nodes) maxNodes) (pick (leb (z .bound) maxBound) (done z) (refused LargeDimension)) (refused TooManyNodes)
+
+abbrev pub keptSize : Size → Result Size
+keptSize z = pick (keeps z) (done z) (refused LargeResult)
 
 -- the size of a result by the weights of the operand's tokens
-abbrev pub resizedBy : (s : Sort) → Rule → Size → Kept (Tree s) → Sized
-resizedBy s rule hit ill = ill-sized
-resizedBy s rule hit over = over-sized
-resizedBy s rule hit (kept t) = pick (keeps (weighs (weightOf s rule hit) (tokens s t))) (Fits (weighs (weightOf s rule hit) (tokens s t))) over-sized
+abbrev pub resizedBy : (s : Sort) → Rule → Size → Result (Tree s) → Result Size
+resizedBy s rule hit (refused e) = refused e
+resizedBy s rule hit (done t) = keptSize (weighs (weightOf s rule hit) (tokens s t))
 
 -- the size of what stands for a replaced literal
-abbrev pub hitSize : Sort → Kept Interval → Sized
-hitSize Faces x = sized Faces (ofOne (λ r. limited Faces (boundary lo r)) x)
-hitSize Intervals x = sized Intervals x
+abbrev pub hitSize : Sort → Result Interval → Result Size
+hitSize Faces x = map (sizeOf Faces) (ofOne (λ r. limited Faces (boundary lo r)) x)
+hitSize Intervals x = map (sizeOf Intervals) x
+
+-- what is answered of an operand beside one that is refused
+abbrev pub besideRefused : {A : Type 0} → Refusal → Result A → Result A
+besideRefused e (refused q) = refused (earlier q e)
+besideRefused e (done a) = refused e
 
 -- the bytes of a formula that was kept, and room for them
-abbrev pub keptBytes : (s : Sort) → Kept (Tree s) → List ℕ
-keptBytes s ill = []
-keptBytes s over = []
-keptBytes s (kept t) = encode s t
+abbrev pub keptBytes : (s : Sort) → Result (Tree s) → List ℕ
+keptBytes s (refused e) = []
+keptBytes s (done t) = encode s t
 
-pub record Fitting (s : Sort) (x : Kept (Tree s)) (n : ℕ) : Type 0 where
+pub record Fitting (s : Sort) (x : Result (Tree s)) (n : ℕ) : Type 0 where
   pub tree : Tree s
-  pub is : x ≡ kept tree
+  pub is : x ≡ done tree
   pub room : length (encode s tree) ≤ n

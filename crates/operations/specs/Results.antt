@@ -5,9 +5,11 @@ use mathlib.Core.Option.{Option, none, some}
 use mathlib.Core.List.{List, _++_}
 use lib.Dec.{leb}
 use lib.ListN.{length, drop}
+use Rattle.refusals.specs.declared.Refusal.the-variants.{NotAFormula, TooManyNodes, LargeDimension, LargeResult, ShortOutput}
+use Rattle.refusals.specs.Refusals.{earlier, Result, refused, done}
 use Rattle.formula.specs.Formula.{End, Face}
 use Rattle.formula.specs.Operations.{boundary, forall, shift, subst, transform}
-use Rattle.formula.specs.Bytes.{Tree, encode, readAll}
+use Rattle.formula.specs.Bytes.{Tree, encode, readAll, nodes, bound, maxNodes, maxBound}
 use Rattle.formula.specs.Answers.{pick, sizeOf, keeps}
 use Rattle.formula.specs.declared.Sort.{Sort}
 use Rattle.formula.specs.declared.Sort.the-variants.{Faces, Intervals}
@@ -15,80 +17,68 @@ use Rattle.formula.specs.declared.Size.{Size}
 use Rattle.operations.specs.declared.Op.{Op as Asked}
 use Rattle.operations.specs.declared.Op.the-variants.{DShift, DSubst}
 use Rattle.operations.specs.declared.Sized.{Sized}
-use Rattle.operations.specs.declared.Sized.the-variants.{Ill as ill-sized, Over as over-sized, Fits}
-use Rattle.operations.specs.declared.Outcome.{Outcome}
-use Rattle.operations.specs.declared.Outcome.the-variants.{Ill as ill-outcome, Over as over-outcome, Short, Done}
+use Rattle.operations.specs.declared.Sized.the-variants.{Fits, Refused}
 
--- A formula within the limits, or why there is none.
-pub data Kept (A : Type 0) : Type 0 where
-  ill over : Kept A
-  kept : A → Kept A
+-- What each answer says: the size of a result, or the refusal.
+abbrev pub saidSized : Sized → Result Size
+saidSized (Fits z) = done z
+saidSized (Refused e) = refused e
 
-abbrev pub limited : (s : Sort) → Tree s → Kept (Tree s)
-limited s t = pick (keeps (sizeOf s t)) (kept t) over
+-- Questions 3 and 4 of an operand.
+abbrev pub allowed : (s : Sort) → Tree s → Result (Tree s)
+allowed s t = pick (leb (nodes s t) maxNodes) (pick (leb (bound s t) maxBound) (done t) (refused LargeDimension)) (refused TooManyNodes)
 
-abbrev pub asOperand : (s : Sort) → Option (Tree s) → Kept (Tree s)
-asOperand s none = ill
-asOperand s (some t) = limited s t
+-- The formula that a list is, where it keeps the limits: questions 2 to 4.
+abbrev pub asOperand : (s : Sort) → Option (Tree s) → Result (Tree s)
+asOperand s none = refused NotAFormula
+asOperand s (some t) = allowed s t
 
--- The formula that a list is, where it keeps the limits.
-unfoldable pub operand : (s : Sort) → List ℕ → Kept (Tree s)
+unfoldable pub operand : (s : Sort) → List ℕ → Result (Tree s)
 operand s l = asOperand s (readAll s l)
 
--- A result of one operand, and of two: all are to be formulas before the limits of any count.
-abbrev pub ofOne : {A B : Type 0} → (A → Kept B) → Kept A → Kept B
-ofOne f ill = ill
-ofOne f over = over
-ofOne f (kept a) = f a
+-- Question 5 of a result.
+abbrev pub limited : (s : Sort) → Tree s → Result (Tree s)
+limited s t = pick (keeps (sizeOf s t)) (done t) (refused LargeResult)
 
-abbrev pub ofTwo : {A B C : Type 0} → (A → B → Kept C) → Kept A → Kept B → Kept C
-ofTwo f ill b = ill
-ofTwo f over ill = ill
-ofTwo f over over = over
-ofTwo f over (kept b) = over
-ofTwo f (kept a) ill = ill
-ofTwo f (kept a) over = over
-ofTwo f (kept a) (kept b) = f a b
+-- A result of one operand, and of two: each question is asked of both before the next.
+abbrev pub ofOne : {A B : Type 0} → (A → Result B) → Result A → Result B
+ofOne f (refused e) = refused e
+ofOne f (done a) = f a
+
+abbrev pub ofTwo : {A B C : Type 0} → (A → B → Result C) → Result A → Result B → Result C
+ofTwo f (refused e) (refused q) = refused (earlier e q)
+ofTwo f (refused e) (done b) = refused e
+ofTwo f (done a) (refused q) = refused q
+ofTwo f (done a) (done b) = f a b
 
 -- The result of each operation on bytes.
-unfoldable pub foralled : ℕ → List ℕ → Kept Face
+unfoldable pub foralled : ℕ → List ℕ → Result Face
 foralled k l = ofOne (λ f. limited Faces (forall k f)) (operand Faces l)
 
-unfoldable pub boundaried : End → List ℕ → Kept Face
+unfoldable pub boundaried : End → List ℕ → Result Face
 boundaried e l = ofOne (λ r. limited Faces (boundary e r)) (operand Intervals l)
 
-unfoldable pub transformed : (s : Sort) → Asked → List ℕ → List ℕ → Kept (Tree s)
+unfoldable pub transformed : (s : Sort) → Asked → List ℕ → List ℕ → Result (Tree s)
 transformed s (DShift k) l r = ofOne (λ t. limited s (transform s (shift k) t)) (operand s l)
 transformed s (DSubst k) l r = ofTwo (λ t q. limited s (transform s (subst k q) t)) (operand s l) (operand Intervals r)
 
--- The size of a result, by the size of what was kept.
-abbrev pub sizedWith : {A : Type 0} → (A → Size) → Kept A → Sized
-sizedWith f ill = ill-sized
-sizedWith f over = over-sized
-sizedWith f (kept t) = Fits (f t)
+-- What is answered where the lent slices have room for so many bytes: question 6.
+abbrev pub roomed : (s : Sort) → Result (Tree s) → ℕ → Result Size
+roomed s (refused e) room = refused e
+roomed s (done t) room = pick (leb (length (encode s t)) room) (done (sizeOf s t)) (refused ShortOutput)
 
-abbrev pub sized : (s : Sort) → Kept (Tree s) → Sized
-sized s x = sizedWith (sizeOf s) x
-
--- What is answered where the lent slices have room for so many bytes, and what is then in a slice: the result in front
--- and its other bytes as they were, or all as it was.
-abbrev pub outcome : (s : Sort) → Kept (Tree s) → ℕ → Outcome
-outcome s ill room = ill-outcome
-outcome s over room = over-outcome
-outcome s (kept t) room = pick (leb (length (encode s t)) room) (Done (sizeOf s t)) (Short (sizeOf s t))
-
-abbrev pub written : (s : Sort) → Kept (Tree s) → ℕ → List ℕ → List ℕ
-written s ill room d = d
-written s over room d = d
-written s (kept t) room d = pick (leb (length (encode s t)) room) (encode s t ++ drop (length (encode s t)) d) d
+-- What is then in a slice: the result in front and its other bytes as they were, or all as it was.
+abbrev pub written : (s : Sort) → Result (Tree s) → ℕ → List ℕ → List ℕ
+written s (refused e) room d = d
+written s (done t) room d = pick (leb (length (encode s t)) room) (encode s t ++ drop (length (encode s t)) d) d
 
 -- An answer with what it leaves in the lent slice that held d.
-pub record Answered (s : Sort) (x : Kept (Tree s)) (d : List ℕ) (r : Outcome) (d′ : List ℕ) : Type 0 where
-  pub says : r ≡ outcome s x (length d)
+pub record Answered (s : Sort) (x : Result (Tree s)) (d : List ℕ) (r : Sized) (d′ : List ℕ) : Type 0 where
+  pub says : saidSized r ≡ roomed s x (length d)
   pub leaves : d′ ≡ written s x (length d) d
 
 -- The same for the two slices of a boundary, each of which has to have room. Both faces are of one size (`boundary-sizes`).
-pub record AnsweredBoth (x y : Kept Face) (d e : List ℕ) (r : Outcome) (d′ e′ : List ℕ) : Type 0 where
-  pub says : r ≡ outcome Faces x (min (length d) (length e))
+pub record AnsweredBoth (x y : Result Face) (d e : List ℕ) (r : Sized) (d′ e′ : List ℕ) : Type 0 where
+  pub says : saidSized r ≡ roomed Faces x (min (length d) (length e))
   pub leaves0 : d′ ≡ written Faces x (min (length d) (length e)) d
   pub leaves1 : e′ ≡ written Faces y (min (length d) (length e)) e

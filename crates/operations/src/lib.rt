@@ -2,6 +2,7 @@
 mod results;
 
 use formula::Size;
+use refusals::Refusal;
 pub use results::boundary;
 pub use results::boundary_size;
 pub use results::forall;
@@ -15,17 +16,8 @@ pub enum Op {
     DSubst(usize),
 }
 
-// The size of a result: of operands that are formulas within the limits, and within the limits itself.
+// The size of a result, or why there is none.
 pub enum Sized {
-    Ill,
-    Over,
     Fits(Size),
-}
-
-// What became of a result: no formulas, over the limits, larger than the lent slice, or written there.
-pub enum Outcome {
-    Ill,
-    Over,
-    Short(Size),
-    Done(Size),
+    Refused(Refusal),
 }

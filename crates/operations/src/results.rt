@@ -1,37 +1,47 @@
 // The results of the operations: first their size, then their bytes.
 use crate::Op;
-use crate::Outcome;
 use crate::Sized;
 use formula::Measured;
 use formula::Size;
 use formula::Sort;
 use passes::Rule;
+use refusals::Refusal;
 ghost use mathlib.Core.Path.{_≡_};
 ghost use lib.ListN.{length};
 ghost use Rattle.formula.specs.Formula.{lo, hi};
-ghost use Rattle.operations.specs.Results.{operand, sized, foralled, boundaried, transformed, Answered, AnsweredBoth};
-ghost use Rattle.operations.specs.Fitting.{resizedBy, hitSize, Fitting, keptBytes};
-ghost use Rattle.passes.specs.Passes.{Small, Wrote};
+ghost use Rattle.formula.specs.Answers.{sizeOf};
+ghost use Rattle.refusals.specs.Refusals.{map};
+ghost use Rattle.operations.specs.Results.{saidSized, operand, foralled, boundaried, transformed, Answered, AnsweredBoth};
+ghost use Rattle.operations.specs.Fitting.{allowedSize, resizedBy, hitSize, besideRefused, Fitting, keptBytes};
+ghost use Rattle.passes.specs.Rewriting.{Small, Wrote};
 
-// The size of a formula that keeps the limits.
+// Questions 3 and 4 of a size.
+fn allowed(z: Size) -> Sized
+    ensures { λ r. ⌜ saidSized r ≡ allowedSize z ⌝ }
+{
+    if 511 < z.nodes {
+        return Sized::Refused(Refusal::TooManyNodes);
+    }
+    if 255 < z.bound {
+        return Sized::Refused(Refusal::LargeDimension);
+    }
+    Sized::Fits(z)
+}
+
+// The size of an operand.
 fn operand_size(sort: Sort, s: &[u8]) -> Sized
-    ensures { λ r. ⌜ r ≡ sized sort (operand sort (now (s .entry))) ⌝ }
+    ensures { λ r. ⌜ saidSized r ≡ map (sizeOf sort) (operand sort (now (s .entry))) ⌝ }
 {
     match formula::measure(sort, s) {
-        Measured::Formula(z) => {
-            if formula::within(z) {
-                return Sized::Fits(z);
-            }
-            Sized::Over
-        }
-        Measured::Ill => Sized::Ill,
+        Measured::Formula(z) => allowed(z),
+        Measured::Ill => Sized::Refused(Refusal::NotAFormula),
     }
 }
 
 // The size of what an operand becomes.
 fn resized(sort: Sort, s: &[u8], rule: Rule, hit: Size) -> Sized
     requires { ⌜ Small hit ⌝ }
-    ensures { λ r. ⌜ r ≡ resizedBy sort rule hit (operand sort (now (s .entry))) ⌝ }
+    ensures { λ r. ⌜ saidSized r ≡ resizedBy sort rule hit (operand sort (now (s .entry))) ⌝ }
 {
     match operand_size(sort, s) {
         Sized::Fits(_) => {
@@ -39,16 +49,15 @@ fn resized(sort: Sort, s: &[u8], rule: Rule, hit: Size) -> Sized
             if formula::within(z) {
                 return Sized::Fits(z);
             }
-            Sized::Over
+            Sized::Refused(Refusal::LargeResult)
         }
-        Sized::Over => Sized::Over,
-        Sized::Ill => Sized::Ill,
+        Sized::Refused(e) => Sized::Refused(e),
     }
 }
 
 // The size of ∀k of a face.
 pub fn forall_size(s: &[u8], k: usize) -> Sized
-    ensures { λ r. ⌜ r ≡ sized Sort.Faces (foralled k (now (s .entry))) ⌝ }
+    ensures { λ r. ⌜ saidSized r ≡ map (sizeOf Sort.Faces) (foralled k (now (s .entry))) ⌝ }
 {
     resized(
         Sort::Faces,
@@ -64,7 +73,7 @@ pub fn forall_size(s: &[u8], k: usize) -> Sized
 
 // The size of each of the two faces of an interval's boundary.
 pub fn boundary_size(s: &[u8]) -> Sized
-    ensures { λ r. ⌜ r ≡ sized Sort.Faces (boundaried lo (now (s .entry))) ⌝ }
+    ensures { λ r. ⌜ saidSized r ≡ map (sizeOf Sort.Faces) (boundaried lo (now (s .entry))) ⌝ }
 {
     resized(
         Sort::Intervals,
@@ -80,7 +89,7 @@ pub fn boundary_size(s: &[u8]) -> Sized
 
 // The size of what stands for a replaced literal: the interval itself, or a face of its boundary.
 fn hit_size(sort: Sort, r: &[u8]) -> Sized
-    ensures { λ x. ⌜ x ≡ hitSize sort (operand Sort.Intervals (now (r .entry))) ⌝ }
+    ensures { λ x. ⌜ saidSized x ≡ hitSize sort (operand Sort.Intervals (now (r .entry))) ⌝ }
 {
     match sort {
         Sort::Faces => boundary_size(r),
@@ -88,24 +97,29 @@ fn hit_size(sort: Sort, r: &[u8]) -> Sized
     }
 }
 
+// What is answered of an operand beside one that is refused: each question is asked of both before the next.
+fn beside(x: Sized, e: Refusal) -> Sized
+    ensures { λ r. ⌜ saidSized r ≡ besideRefused e (saidSized x) ⌝ }
+{
+    match x {
+        Sized::Fits(_) => Sized::Refused(e),
+        Sized::Refused(q) => Sized::Refused(refusals::earlier(q, e)),
+    }
+}
+
 // The size of a substitution's result.
 fn subst_size(sort: Sort, k: usize, s: &[u8], r: &[u8]) -> Sized
-    ensures { λ x. ⌜ x ≡ sized sort (transformed sort (Op.DSubst k) (now (s .entry)) (now (r .entry))) ⌝ }
+    ensures { λ x. ⌜ saidSized x ≡ map (sizeOf sort) (transformed sort (Op.DSubst k) (now (s .entry)) (now (r .entry))) ⌝ }
 {
     match hit_size(sort, r) {
         Sized::Fits(z) => resized(sort, s, Rule::Down(k), z),
-        Sized::Over => match operand_size(sort, s) {
-            Sized::Ill => Sized::Ill,
-            Sized::Over => Sized::Over,
-            Sized::Fits(_) => Sized::Over,
-        },
-        Sized::Ill => Sized::Ill,
+        Sized::Refused(e) => beside(operand_size(sort, s), e),
     }
 }
 
 // The size of a transformed formula. A shift does not read r.
 pub fn transform_size(sort: Sort, op: Op, s: &[u8], r: &[u8]) -> Sized
-    ensures { λ x. ⌜ x ≡ sized sort (transformed sort op (now (s .entry)) (now (r .entry))) ⌝ }
+    ensures { λ x. ⌜ saidSized x ≡ map (sizeOf sort) (transformed sort op (now (s .entry)) (now (r .entry))) ⌝ }
 {
     match op {
         Op::DShift(k) => resized(
@@ -123,21 +137,20 @@ pub fn transform_size(sort: Sort, op: Op, s: &[u8], r: &[u8]) -> Sized
 }
 
 // ∀k of the face s, into out.
-pub fn forall(s: &[u8], k: usize, out: &mut [u8]) -> Outcome
+pub fn forall(s: &[u8], k: usize, out: &mut [u8]) -> Sized
     ensures { λ r. ⌜ Answered Sort.Faces (foralled k (now (s .entry))) (now (out .entry)) r (now (out .exit)) ⌝ }
 {
     match forall_size(s, k) {
         Sized::Fits(z) => {
             let n = z.len;
             if out.len() < n {
-                return Outcome::Short(z);
+                return Sized::Refused(Refusal::ShortOutput);
             }
             let ff = [0u8; 1];
             passes::rewrite(Sort::Faces, s, Rule::Down(k), &ff, &ff, out);
-            Outcome::Done(z)
+            Sized::Fits(z)
         }
-        Sized::Over => Outcome::Over,
-        Sized::Ill => Outcome::Ill,
+        Sized::Refused(e) => Sized::Refused(e),
     }
 }
 
@@ -175,41 +188,39 @@ fn transform_out(sort: Sort, op: Op, s: &[u8], r: &[u8], out: &mut [u8]) -> usiz
 }
 
 // The formula s shifted, or with the interval r substituted, into out. A shift does not read r.
-pub fn transform(sort: Sort, op: Op, s: &[u8], r: &[u8], out: &mut [u8]) -> Outcome
+pub fn transform(sort: Sort, op: Op, s: &[u8], r: &[u8], out: &mut [u8]) -> Sized
     ensures { λ x. ⌜ Answered sort (transformed sort op (now (s .entry)) (now (r .entry))) (now (out .entry)) x (now (out .exit)) ⌝ }
 {
     match transform_size(sort, op, s, r) {
         Sized::Fits(z) => {
             let n = z.len;
             if out.len() < n {
-                return Outcome::Short(z);
+                return Sized::Refused(Refusal::ShortOutput);
             }
             transform_out(sort, op, s, r, out);
-            Outcome::Done(z)
+            Sized::Fits(z)
         }
-        Sized::Over => Outcome::Over,
-        Sized::Ill => Outcome::Ill,
+        Sized::Refused(e) => Sized::Refused(e),
     }
 }
 
 // The two faces of the interval s: where it is zero, and where it is one.
-pub fn boundary(s: &[u8], zero: &mut [u8], one: &mut [u8]) -> Outcome
+pub fn boundary(s: &[u8], zero: &mut [u8], one: &mut [u8]) -> Sized
     ensures { λ r. ⌜ AnsweredBoth (boundaried lo (now (s .entry))) (boundaried hi (now (s .entry))) (now (zero .entry)) (now (one .entry)) r (now (zero .exit)) (now (one .exit)) ⌝ }
 {
     match boundary_size(s) {
         Sized::Fits(z) => {
             let n = z.len;
             if zero.len() < n {
-                return Outcome::Short(z);
+                return Sized::Refused(Refusal::ShortOutput);
             }
             if one.len() < n {
-                return Outcome::Short(z);
+                return Sized::Refused(Refusal::ShortOutput);
             }
             passes::side(s, 0, zero);
             passes::side(s, 1, one);
-            Outcome::Done(z)
+            Sized::Fits(z)
         }
-        Sized::Over => Outcome::Over,
-        Sized::Ill => Outcome::Ill,
+        Sized::Refused(e) => Sized::Refused(e),
     }
 }

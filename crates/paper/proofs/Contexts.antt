@@ -4,7 +4,7 @@ use native.Mathlib.Omega.{arith}
 use Rattle.formula.specs.Formula.{End, Face, ff, ft, at, fand, for, Interval, beside}
 use Rattle.formula.specs.Operations.{boundary, forall}
 use Rattle.formula.specs.Bytes.{boundFace, boundInterval}
-use Rattle.formula.proofs.Compare.{Stands, stands}
+use Rattle.formula.proofs.Compare.{Compares, stands}
 use Rattle.calculus.proofs.Calling.{boundary-size}
 use Rattle.paper.specs.Maps.{weaken}
 
@@ -29,7 +29,7 @@ forall-context d k ff l h = omega arith
 forall-context d k ft l h = omega arith
 forall-context d k (at e n) l h = go (compare n k) (stands n k)
   where
-    go : (o : Ordering) → Stands o n k → boundFace (beside o (at e n) ff (at e (pred n))) ≤ d
+    go : (o : Ordering) → Compares o n k → boundFace (beside o (at e n) ff (at e (pred n))) ≤ d
     go Ordering·lt s = omega arith
     go Ordering·eq s = omega arith
     go Ordering·gt s = omega arith

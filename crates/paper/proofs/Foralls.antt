@@ -5,7 +5,7 @@ use Prim.Native.Nat.{ℕ, suc, pred, compare, Ordering, Ordering·lt, Ordering·
 use native.Mathlib.Omega.{arith}
 use Rattle.formula.specs.Formula.{End, Face, ff, ft, at, fand, for, Entails, beside, raised}
 use Rattle.formula.specs.Operations.{forall, shift, ftransform}
-use Rattle.formula.proofs.Compare.{compare-lt, Stands, stands}
+use Rattle.formula.proofs.Compare.{compare-lt, Compares, stands}
 use Rattle.formula.proofs.Meaning.{boundary-dim, forall-hit, forall-below, forall-above, forall-adjoint, raised-pred}
 use Rattle.calculus.specs.Lattice.{_⊑_, reflexive, transitive}
 use Rattle.calculus.proofs.Lattices.{order-iff-entails}
@@ -39,7 +39,7 @@ forall-monotone k {a} {b} p = forall-right k (forall k a) b .1 (transitive (fora
 forall-raised : (k : ℕ) (e : End) (n : ℕ) → forall k (at e (raised k n)) ≡ at e n
 forall-raised k e n = go (compare n k) (stands n k)
   where
-    go : (o : Ordering) → Stands o n k → forall k (at e (beside o n (suc n) (suc n))) ≡ at e n
+    go : (o : Ordering) → Compares o n k → forall k (at e (beside o n (suc n) (suc n))) ≡ at e n
     go Ordering·lt h = forall-below e n k h
     go Ordering·eq h = forall-above e (suc n) k (omega arith)
     go Ordering·gt h = forall-above e (suc n) k (omega arith)
@@ -66,7 +66,7 @@ forall-only k g c ff = c .map .keeps-zero
 forall-only k g c ft = c .map .keeps-one
 forall-only k g c (at e n) = go (compare n k) (stands n k)
   where
-    go : (o : Ordering) → Stands o n k → g (at e n) ⊑⊒ beside o (at e n) ff (at e (pred n))
+    go : (o : Ordering) → Compares o n k → g (at e n) ⊑⊒ beside o (at e n) ff (at e (pred n))
     go Ordering·lt h = rw (compare-lt n k h) at (c .keeps e n)
     go Ordering·eq h = rw h (c .loses e)
     go Ordering·gt h = rw (raised-pred k n h) at (c .keeps e (pred n))

@@ -10,24 +10,24 @@ use lib.Seq.{sets, length-sets}
 use borrow.Author.Tests.{eq-eqb, ne-eqb}
 use types.Run.{OneOf, miss}
 use denote.Enum.Declared.{tagOf}
-use Rattle.formula.proofs.Step.{the-type}
+use Rattle.formula.proofs.Advance.{the-type}
 use Rattle.formula.specs.Formula.{beside}
 use Rattle.formula.specs.Bytes.{Tree}
 use Rattle.formula.specs.Answers.{dimSpace, kindOf, treeOf, stepOf}
-use Rattle.passes.specs.Passes.{Token, plain, literal, tokensOf, Whole, movedTo, _⊕_, zeroSize, weighs, plainWeight, movedWeight, weightOf, Small, spell, AllTokens, FieldedAt, Wrote, movedBytes, imageOf, Rewritable}
+use Rattle.passes.specs.Rewriting.{Token, plain, literal, tokensOf, Whole, movedTo, _⊕_, zeroSize, weighs, plainWeight, movedWeight, weightOf, Small, spell, AllTokens, FieldedAt, Wrote, movedBytes, imageOf, Rewritable}
 use Rattle.passes.specs.Stepping.{kindOver, tokenOver, DimOver, placeBy, weightOver}
 use Rattle.formula.specs.declared.Sort.{Sort}
 use Rattle.formula.specs.declared.Size.{Size}
 use Rattle.formula.specs.declared.Kind.{Kind}
 use Rattle.formula.specs.declared.Kind.the-variants.{Nullary, Literal, Unary, Binary, Unknown}
 use Rattle.formula.specs.declared.Place.{Place}
-use Rattle.formula.specs.declared.Step.{Step}
-use Rattle.formula.specs.declared.Step.the-variants.{Leaf, Lit, One, Two, Stuck}
+use Rattle.formula.specs.declared.Advance.{Advance}
+use Rattle.formula.specs.declared.Advance.the-variants.{Leaf, Lit, One, Two, Stuck}
 use Rattle.passes.specs.declared.Rule.{Rule}
 use Rattle.passes.specs.declared.Rule.the-variants.{Up, Down, Ends}
 use Rattle.passes.specs.declared.Moved.{Moved}
 use Rattle.passes.specs.declared.Moved.the-variants.{To, Hit}
-use Rattle.formula.proofs.Compare.{compare-lt, compare-eq, compare-gt, Stands, stands}
+use Rattle.formula.proofs.Compare.{compare-lt, compare-eq, compare-gt, Compares, stands}
 use Rattle.passes.proofs.TokenLaws.{rowTokens, Rest, Stepped, stepped-on, rest-start, row-start, rest-end, rest-step}
 
 -- where a dimension goes, by the tests of the code
@@ -37,7 +37,7 @@ up-below k n h = rw compare-lt
 pub up-from : (k n : ℕ) → k ≤ n → movedTo (Up k) n ≡ To (n + 1)
 up-from k n h = go (compare n k) (stands n k)
   where
-    go : (o : Ordering) → Stands o n k → To (beside o n (suc n) (suc n)) ≡ To (n + 1)
+    go : (o : Ordering) → Compares o n k → To (beside o n (suc n) (suc n)) ≡ To (n + 1)
     go Ordering·lt g = absurd (omega arith)
     go Ordering·eq g = ap To (sym (add-one n))
     go Ordering·gt g = ap To (sym (add-one n))
@@ -99,7 +99,7 @@ small-weight s rule hit h (plain b) = small-plain rule (kindOf s b)
 small-weight s rule hit h (literal b n) = small-moved (movedTo rule n) hit h
 
 -- a step over no literal, by its variant
-pub plain-over : (b : ℕ) (x : Step) → OneOf (0 ∷ 2 ∷ 3 ∷ 4 ∷ []) (tagOf the-type x) → tokenOver b x ≡ plain b
+pub plain-over : (b : ℕ) (x : Advance) → OneOf (0 ∷ 2 ∷ 3 ∷ 4 ∷ []) (tagOf the-type x) → tokenOver b x ≡ plain b
 plain-over b (Leaf q) h = refl
 plain-over b (Lit q n) h = absurd (miss (0 ∷ 2 ∷ 3 ∷ 4 ∷ []) 1 tt h)
 plain-over b (One q) h = refl
@@ -107,7 +107,7 @@ plain-over b (Two q) h = refl
 plain-over b Stuck h = refl
 
 -- what a token weighs is what the step over it says
-pub weight-over : (s : Sort) (rule : Rule) (hit : Size) (b : ℕ) (x : Step) → kindOf s b ≡ kindOver x → weightOver rule hit x ≡ weightOf s rule hit (tokenOver b x)
+pub weight-over : (s : Sort) (rule : Rule) (hit : Size) (b : ℕ) (x : Advance) → kindOf s b ≡ kindOver x → weightOver rule hit x ≡ weightOf s rule hit (tokenOver b x)
 weight-over s rule hit b (Leaf q) e = ap (plainWeight rule) (sym e)
 weight-over s rule hit b (Lit q n) e = refl
 weight-over s rule hit b (One q) e = ap (plainWeight rule) (sym e)
@@ -145,7 +145,7 @@ module _ {s : Sort} {rule : Rule} {hit : Size} {l : List ℕ} {p : Place} {len n
       ∙ ap (λ (ts : List Token). record { len = len; nodes = nodes; bound = bound } ⊕ weighs (weightOf s rule hit) ts) (sym (rest-end s l p (u .row) (u .rest) (omega arith)))
       ∙ u .sum
 
-  module _ (h : 0 < p .pending) {x : Step} (e : x ≡ stepOf s l (p .at) (p .pending)) where
+  module _ (h : 0 < p .pending) {x : Advance} (e : x ≡ stepOf s l (p .at) (p .pending)) where
     abbrev pub summed-turn : Stepped s l p (u .row) x
     summed-turn = rest-step s l p (u .row) (u .rest) h x e
 
@@ -260,7 +260,7 @@ module _ {s : Sort} {rule : Rule} {u v l d₀ d : List ℕ} {p : Place} {o : ℕ
   unfolding spell
   rewriting-end h = writing-end (spell image (tokensOf s l)) d₀ d o (spell image (rowTokens s (w .row))) (w .writing) (ap (spell image) (rest-end s l p (w .row) (w .rest) (omega arith)))
 
-  module _ (h : 0 < p .pending) {x : Step} (e : x ≡ stepOf s l (p .at) (p .pending)) where
+  module _ (h : 0 < p .pending) {x : Advance} (e : x ≡ stepOf s l (p .at) (p .pending)) where
     abbrev pub rewriting-turn : Stepped s l p (w .row) x
     rewriting-turn = rest-step s l p (w .row) (w .rest) h x e
 

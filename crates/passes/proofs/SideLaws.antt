@@ -11,14 +11,14 @@ use Rattle.formula.specs.Formula.{End, lo, hi, other, Interval, i0, i1, dim, ne
 use Rattle.formula.specs.Operations.{boundary}
 use Rattle.formula.specs.Bytes.{dimBytes, encodeFace, nodeOf}
 use Rattle.formula.specs.Answers.{dimSpace, kindOf, treeOf, stepOf}
-use Rattle.passes.specs.Passes.{Whole, Token, plain, tokensInterval, tokensOf, Wrote, bit, plainSide, sideBytes, pushKind, pushed, sides, endOf, Sided}
+use Rattle.passes.specs.Rewriting.{Whole, Token, plain, tokensInterval, tokensOf, Wrote, bit, plainSide, sideBytes, pushKind, pushed, sides, endOf, Sided}
 use Rattle.passes.specs.Stepping.{kindOver, tokenOver, DimOver, placeBy, stackOf, Bits, pendingBy, Pushed}
 use Rattle.formula.specs.declared.Sort.the-variants.{Intervals}
 use Rattle.formula.specs.declared.Kind.{Kind}
 use Rattle.formula.specs.declared.Kind.the-variants.{Nullary, Literal, Unary, Binary, Unknown}
 use Rattle.formula.specs.declared.Place.{Place}
-use Rattle.formula.specs.declared.Step.{Step}
-use Rattle.formula.specs.declared.Step.the-variants.{Leaf, Lit, One, Two, Stuck}
+use Rattle.formula.specs.declared.Advance.{Advance}
+use Rattle.formula.specs.declared.Advance.the-variants.{Leaf, Lit, One, Two, Stuck}
 use Rattle.passes.proofs.TokenLaws.{rowTokens, Rest, Stepped, rest-start, row-start, rest-end, rest-few, rest-step}
 use Rattle.passes.proofs.PassLaws.{Writing, writing-start, writing-length, writing-room, writing-more, writing-end}
 
@@ -122,14 +122,14 @@ sides-whole r e =
     ap (λ (ts : List Token). sides ts (e ∷ [])) (sym (append-nil (tokensInterval r))) ∙ sides-tokens r e [] [] ∙ append-nil (encodeFace (boundary e r))
 
 -- what a token becomes, where the step over it is known
-pub side-plain : (e b : ℕ) {x y : Step} → x ≡ y → tokenOver b y ≡ plain b → kindOf Intervals b ≡ kindOver x → sideBytes e (tokenOver b x) ≡ plainSide e (kindOver y) b
-side-plain e b i t k = ap (λ (z : Step). sideBytes e (tokenOver b z)) i ∙ ap (sideBytes e) t ∙ ap (λ (z : Kind). plainSide e z b) (k ∙ ap kindOver i)
+pub side-plain : (e b : ℕ) {x y : Advance} → x ≡ y → tokenOver b y ≡ plain b → kindOf Intervals b ≡ kindOver x → sideBytes e (tokenOver b x) ≡ plainSide e (kindOver y) b
+side-plain e b i t k = ap (λ (z : Advance). sideBytes e (tokenOver b z)) i ∙ ap (sideBytes e) t ∙ ap (λ (z : Kind). plainSide e z b) (k ∙ ap kindOver i)
 
-pub side-literal : (e b : ℕ) {x : Step} {q : Place} {n : ℕ} → x ≡ Lit q n → sideBytes e (tokenOver b x) ≡ (2 + e) ∷ dimBytes n
-side-literal e b i = ap (λ (z : Step). sideBytes e (tokenOver b z)) i
+pub side-literal : (e b : ℕ) {x : Advance} {q : Place} {n : ℕ} → x ≡ Lit q n → sideBytes e (tokenOver b x) ≡ (2 + e) ∷ dimBytes n
+side-literal e b i = ap (λ (z : Advance). sideBytes e (tokenOver b z)) i
 
 -- what a token does to the stack is what its kind does
-pushed-over : (b : ℕ) (x : Step) → kindOf Intervals b ≡ kindOver x → (e : End) (es : List End) → pushed (tokenOver b x) e es ≡ pushKind (kindOver x) e es
+pushed-over : (b : ℕ) (x : Advance) → kindOf Intervals b ≡ kindOver x → (e : End) (es : List End) → pushed (tokenOver b x) e es ≡ pushKind (kindOver x) e es
 pushed-over b (Leaf q) i e es = rw i
 pushed-over b (Lit q n) i e es = refl
 pushed-over b (One q) i e es = rw i
@@ -178,7 +178,7 @@ module _ {goal l d₀ d ends : List ℕ} {p : Place} {o : ℕ} (w : Siding goal 
   pub siding-few : Whole Intervals l → p .pending ≤ 1022
   siding-few h = omega (arith, rest-few Intervals l p (w .row) (w .rest), h .short)
 
-  module _ (h : 0 < p .pending) {x : Step} (e : x ≡ stepOf Intervals l (p .at) (p .pending)) where
+  module _ (h : 0 < p .pending) {x : Advance} (e : x ≡ stepOf Intervals l (p .at) (p .pending)) where
     abbrev pub siding-turn : Stepped Intervals l p (w .row) x
     siding-turn = rest-step Intervals l p (w .row) (w .rest) h x e
 

@@ -9,15 +9,15 @@ use lib.Seq.{drop-cons}
 use borrow.Author.Tests.{le-leb}
 use Rattle.formula.specs.Bytes.{Tree, dimWidth, dimBytes, dimAt, encode, Node, leaf, lit, one, two, bad, nodeOf}
 use Rattle.formula.specs.Answers.{dimSpace, kindOf, treeOf, stepBy, stepOf}
-use Rattle.passes.specs.Passes.{Whole, Token, plain, literal, tokens, tokensFace, tokensInterval, tokensOf, spell}
+use Rattle.passes.specs.Rewriting.{Whole, Token, plain, literal, tokens, tokensFace, tokensInterval, tokensOf, spell}
 use Rattle.passes.specs.Stepping.{kindOver, tokenOver, DimOver, placeBy, pendingBy}
 use Rattle.formula.specs.declared.Sort.{Sort}
 use Rattle.formula.specs.declared.Sort.the-variants.{Faces, Intervals}
 use Rattle.formula.specs.declared.Kind.{Kind}
 use Rattle.formula.specs.declared.Kind.the-variants.{Nullary, Literal, Unary, Binary}
 use Rattle.formula.specs.declared.Place.{Place}
-use Rattle.formula.specs.declared.Step.{Step}
-use Rattle.formula.specs.declared.Step.the-variants.{Leaf, Lit, One, Two}
+use Rattle.formula.specs.declared.Advance.{Advance}
+use Rattle.formula.specs.declared.Advance.the-variants.{Leaf, Lit, One, Two}
 use Rattle.formula.proofs.Nodes.{made-as, EachNode, each-node, tree-ind}
 use Rattle.formula.proofs.Reading.{encode-pos}
 
@@ -109,7 +109,7 @@ pub record Rest (s : Sort) (l : List ℕ) (p : Place) (row : List (Tree s)) : Ty
   pub count : p .pending ≡ length row
 
 -- The step goes over the first token of the row, to where the others come.
-pub record Stepped (s : Sort) (l : List ℕ) (p : Place) (row : List (Tree s)) (x : Step) : Type 0 where
+pub record Stepped (s : Sort) (l : List ℕ) (p : Place) (row : List (Tree s)) (x : Advance) : Type 0 where
   pub rest : List (Tree s)
   pub head : rowTokens s row ≡ tokenOver (getD l (p .at) 0) x ∷ rowTokens s rest
   pub kind : kindOf s (getD l (p .at) 0) ≡ kindOver x
@@ -119,7 +119,7 @@ pub record Stepped (s : Sort) (l : List ℕ) (p : Place) (row : List (Tree s)) (
   pub inside : placeBy x .at ≤ length l
   pub pending : placeBy x .pending ≡ pendingBy (kindOver x) (p .pending)
 
-pub stepped-on : {s : Sort} {l : List ℕ} {p : Place} {row : List (Tree s)} {x : Step} → Stepped s l p row x → {q : Place} → q ≡ placeBy x → (p .at < q .at) × (q .at ≤ length l)
+pub stepped-on : {s : Sort} {l : List ℕ} {p : Place} {row : List (Tree s)} {x : Advance} → Stepped s l p row x → {q : Place} → q ≡ placeBy x → (p .at < q .at) × (q .at ≤ length l)
 stepped-on t i = let h = ap (λ (q : Place). q .at) i in (omega (arith, t .forward), omega (arith, t .inside))
 
 pub rest-start : (s : Sort) (l : List ℕ) → Whole s l → (p : Place) → p .at ≡ 0 → p .pending ≡ 1 → Rest s l p (treeOf s l ∷ [])
@@ -136,7 +136,7 @@ rest-end s l p [] r e = refl
 rest-end s l p (t ∷ ts) r e = absurd (omega (arith, r .count))
 
 -- A step over a node that is no literal.
-record Plain {A : Type 0} (l : List ℕ) (p : Place) (k : Node A) (x : Step) : Type 0 where
+record Plain {A : Type 0} (l : List ℕ) (p : Place) (k : Node A) (x : Advance) : Type 0 where
   step : stepBy k l (p .at) (p .pending) ≡ x
   token : (b : ℕ) → tokenOver b x ≡ plain b
   field : DimOver x
@@ -154,7 +154,7 @@ module _ (s : Sort) (l : List ℕ) (p : Place) where
         simp (le-leb 1 (p .pending) h, le-leb (p .pending) (length l - p .at) (rest-few (t ∷ ts) r))
         (ap (λ (x : Node (Tree s)). stepBy x l (p .at) (p .pending)) (ap (nodeOf s) i ∙ e))
 
-    over-plain : (x : Step) → Plain l p k x → kindOf s b ≡ kindOver x → (us : List (Tree s)) → encode s t ++ rowBytes s ts ≡ b ∷ rowBytes s us → tokens s t ++ rowTokens s ts ≡ plain b ∷ rowTokens s us
+    over-plain : (x : Advance) → Plain l p k x → kindOf s b ≡ kindOver x → (us : List (Tree s)) → encode s t ++ rowBytes s ts ≡ b ∷ rowBytes s us → tokens s t ++ rowTokens s ts ≡ plain b ∷ rowTokens s us
         → pendingBy (kindOver x) (p .pending) ≡ length us → Stepped s l p (t ∷ ts) (stepOf s l (p .at) (p .pending))
     unfolding rowBytes rowTokens
     over-plain x n kind us bytes listed count =
@@ -218,6 +218,6 @@ module _ (s : Sort) (l : List ℕ) (p : Place) where
       })
 
   -- where formulas are pending, a step is not stuck
-  pub rest-step : (row : List (Tree s)) → Rest s l p row → 0 < p .pending → (x : Step) → x ≡ stepOf s l (p .at) (p .pending) → Stepped s l p row x
+  pub rest-step : (row : List (Tree s)) → Rest s l p row → 0 < p .pending → (x : Advance) → x ≡ stepOf s l (p .at) (p .pending) → Stepped s l p row x
   rest-step [] r h x e = absurd (omega (arith, r .count))
   rest-step (t ∷ ts) r h x e = subst (Stepped s l p (t ∷ ts)) (sym e) (step-from t ts r)

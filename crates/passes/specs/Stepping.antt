@@ -10,13 +10,13 @@ use Rattle.formula.specs.declared.Size.{Size}
 use Rattle.formula.specs.declared.Kind.{Kind}
 use Rattle.formula.specs.declared.Kind.the-variants.{Nullary, Literal, Unary, Binary, Unknown}
 use Rattle.formula.specs.declared.Place.{Place}
-use Rattle.formula.specs.declared.Step.{Step}
-use Rattle.formula.specs.declared.Step.the-variants.{Leaf, Lit, One, Two, Stuck}
-use Rattle.passes.specs.Passes.{Token, plain, literal, movedTo, plainWeight, movedWeight, endOf, pushKind}
+use Rattle.formula.specs.declared.Advance.{Advance}
+use Rattle.formula.specs.declared.Advance.the-variants.{Leaf, Lit, One, Two, Stuck}
+use Rattle.passes.specs.Rewriting.{Token, plain, literal, movedTo, plainWeight, movedWeight, endOf, pushKind}
 use Rattle.passes.specs.declared.Rule.{Rule}
 
 -- the kind of node that a step goes over
-abbrev pub kindOver : Step → Kind
+abbrev pub kindOver : Advance → Kind
 kindOver (Leaf q) = Nullary
 kindOver (Lit q n) = Literal
 kindOver (One q) = Unary
@@ -24,7 +24,7 @@ kindOver (Two q) = Binary
 kindOver Stuck = Unknown
 
 -- the token that a step goes over, where b is its kind byte
-abbrev pub tokenOver : ℕ → Step → Token
+abbrev pub tokenOver : ℕ → Advance → Token
 tokenOver b (Leaf q) = plain b
 tokenOver b (Lit q n) = literal b n
 tokenOver b (One q) = plain b
@@ -32,7 +32,7 @@ tokenOver b (Two q) = plain b
 tokenOver b Stuck = plain b
 
 -- a literal's dimension is one that its field can hold
-abbrev pub DimOver : Step → Type 0
+abbrev pub DimOver : Advance → Type 0
 DimOver (Leaf q) = Unit {0}
 DimOver (Lit q n) = n < dimSpace
 DimOver (One q) = Unit {0}
@@ -40,7 +40,7 @@ DimOver (Two q) = Unit {0}
 DimOver Stuck = Unit {0}
 
 -- the place that a step leads to; behind a step that is stuck, nothing is pending
-abbrev pub placeBy : Step → Place
+abbrev pub placeBy : Advance → Place
 placeBy (Leaf q) = q
 placeBy (Lit q n) = q
 placeBy (One q) = q
@@ -48,7 +48,7 @@ placeBy (Two q) = q
 placeBy Stuck = record { at = 0; pending = 0 }
 
 -- the size of what a token becomes, by the step over it
-abbrev pub weightOver : Rule → Size → Step → Size
+abbrev pub weightOver : Rule → Size → Advance → Size
 weightOver rule hit (Leaf q) = plainWeight rule Nullary
 weightOver rule hit (Lit q n) = movedWeight (movedTo rule n) hit
 weightOver rule hit (One q) = plainWeight rule Unary

@@ -2,15 +2,15 @@
 use crate::Moved;
 use crate::Rule;
 use crate::weighing;
+use formula::Advance;
 use formula::Place;
 use formula::Sort;
-use formula::Step;
 ghost use Prim.Native.Nat.{_+_, _≤_, _<_};
 ghost use mathlib.Core.List.{[], _∷_};
 ghost use lib.ListN.{length};
 ghost use Rattle.formula.specs.Bytes.{dimBytes};
 ghost use Rattle.formula.specs.Answers.{dimSpace};
-ghost use Rattle.passes.specs.Passes.{movedTo, movedBytes, imageOf, tokensOf, Fielded, FieldedAt, Rewritable, Wrote, spell};
+ghost use Rattle.passes.specs.Rewriting.{movedTo, movedBytes, imageOf, tokensOf, Fielded, FieldedAt, Rewritable, Wrote, spell};
 ghost use Rattle.passes.specs.Stepping.{tokenOver, DimOver};
 
 // One byte, written at `o`; answers the place after it.
@@ -66,11 +66,19 @@ fn literal_out(
 }
 
 // What a node of kind byte b becomes, by the step over it, written at `o`; answers the place after it.
-fn node_out(b: u8, x: Step, rule: Rule, zero: &[u8], one: &[u8], out: &mut [u8], o: usize) -> usize
+fn node_out(
+    b: u8,
+    x: Advance,
+    rule: Rule,
+    zero: &[u8],
+    one: &[u8],
+    out: &mut [u8],
+    o: usize,
+) -> usize
     requires { ⌜ DimOver x × FieldedAt rule (tokenOver b x) × (o + length (imageOf rule (now zero) (now one) (tokenOver b x)) ≤ length (now out)) ⌝ }
     ensures { λ r. ⌜ Wrote (now (out .entry)) o (imageOf rule (now (zero .entry)) (now (one .entry)) (tokenOver b x)) r (now (out .exit)) ⌝ }
 {
-    if let Step::Lit(_, n) = x {
+    if let Advance::Lit(_, n) = x {
         return literal_out(b, n, rule, zero, one, out, o);
     }
     byte_out(b, out, o)

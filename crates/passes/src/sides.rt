@@ -2,16 +2,16 @@
 // a stack keeps the side of each expression that is still to come.
 use crate::rewriting;
 use crate::weighing;
+use formula::Advance;
 use formula::Place;
 use formula::Sort;
-use formula::Step;
 ghost use mathlib.Core.Path.{_≡_};
 ghost use mathlib.Core.List.{[], _∷_};
 ghost use Prim.Native.Nat.{_+_, _-_, _≤_, _<_};
 ghost use lib.Dec.{eqb};
 ghost use lib.ListN.{length, getD};
 ghost use Rattle.formula.specs.Answers.{pick, kindOf};
-ghost use Rattle.passes.specs.Passes.{sideBytes, tokensOf, sides, endOf, Wrote, Sided};
+ghost use Rattle.passes.specs.Rewriting.{sideBytes, tokensOf, sides, endOf, Wrote, Sided};
 ghost use Rattle.passes.specs.Stepping.{kindOver, tokenOver, DimOver, Pushed};
 
 // The side e of i0 or i1: ft where the interval is that end, else ff.
@@ -38,30 +38,30 @@ fn pair_side(b: u8, e: u8) -> u8
 
 // What a node of kind byte b becomes at the side e, by the step over it, written at `o`; a negation becomes nothing.
 // Answers the place after it.
-fn side_out(b: u8, x: Step, e: u8, out: &mut [u8], o: usize) -> usize
+fn side_out(b: u8, x: Advance, e: u8, out: &mut [u8], o: usize) -> usize
     requires { ⌜ (e ≤ 1) × (kindOf Sort.Intervals b ≡ kindOver x) × DimOver x × (o + length (sideBytes e (tokenOver b x)) ≤ length (now out)) ⌝ }
     ensures { λ r. ⌜ Wrote (now (out .entry)) o (sideBytes e (tokenOver b x)) r (now (out .exit)) ⌝ }
 {
     match x {
-        Step::Leaf(_) => rewriting::byte_out(leaf_side(b, e), out, o),
-        Step::Lit(_, n) => rewriting::bytes_out(2 + e, n, out, o),
-        Step::One(_) => o,
-        Step::Two(_) => rewriting::byte_out(pair_side(b, e), out, o),
-        Step::Stuck => o,
+        Advance::Leaf(_) => rewriting::byte_out(leaf_side(b, e), out, o),
+        Advance::Lit(_, n) => rewriting::bytes_out(2 + e, n, out, o),
+        Advance::One(_) => o,
+        Advance::Two(_) => rewriting::byte_out(pair_side(b, e), out, o),
+        Advance::Stuck => o,
     }
 }
 
 // The stack behind a node, by the step over it; e stood on top, at place `top`.
-fn push(x: Step, e: u8, ends: &mut [u8; 1024], top: usize)
+fn push(x: Advance, e: u8, ends: &mut [u8; 1024], top: usize)
     requires { ⌜ (e ≤ 1) × (top + 1 < 1024) × (length (now ends) ≡ 1024) × (getD (now ends) top 0 ≡ e) ⌝ }
     ensures { λ _. ⌜ Pushed (kindOver x) e (now (ends .entry)) top (now (ends .exit)) ⌝ }
 {
     match x {
-        Step::One(_) => ends[top] = 1 - e,
-        Step::Two(_) => ends[top + 1] = e,
-        Step::Leaf(_) => {}
-        Step::Lit(_, _) => {}
-        Step::Stuck => {}
+        Advance::One(_) => ends[top] = 1 - e,
+        Advance::Two(_) => ends[top + 1] = e,
+        Advance::Leaf(_) => {}
+        Advance::Lit(_, _) => {}
+        Advance::Stuck => {}
     }
 }
 

@@ -1,15 +1,15 @@
 // The size of a result before any of it is written: each node of the operand becomes something of a known size.
 use crate::Moved;
 use crate::Rule;
+use formula::Advance;
 use formula::Kind;
 use formula::Place;
 use formula::Size;
 use formula::Sort;
-use formula::Step;
 ghost use mathlib.Core.Path.{_≡_};
 ghost use Prim.Native.Nat.{_<_};
 ghost use Rattle.formula.specs.Answers.{dimSpace};
-ghost use Rattle.passes.specs.Passes.{movedTo, plainWeight, movedWeight, weightOf, weighs, tokensOf, Whole, Small};
+ghost use Rattle.passes.specs.Rewriting.{movedTo, plainWeight, movedWeight, weightOf, weighs, tokensOf, Whole, Small};
 ghost use Rattle.passes.specs.Stepping.{placeBy, DimOver, weightOver};
 
 // Where dimension n goes.
@@ -48,15 +48,15 @@ fn lowered(k: usize, n: usize) -> Moved
 
 // The place that a step led to. In a formula no step is stuck; its answer is no place that the caller holds, since to
 // choose between two of those keeps both in memory.
-pub(crate) fn place_by(x: Step) -> Place
+pub(crate) fn place_by(x: Advance) -> Place
     ensures { λ r. ⌜ r ≡ placeBy x ⌝ }
 {
     match x {
-        Step::Leaf(q) => q,
-        Step::Lit(q, _) => q,
-        Step::One(q) => q,
-        Step::Two(q) => q,
-        Step::Stuck => Place { at: 0, pending: 0 },
+        Advance::Leaf(q) => q,
+        Advance::Lit(q, _) => q,
+        Advance::One(q) => q,
+        Advance::Two(q) => q,
+        Advance::Stuck => Place { at: 0, pending: 0 },
     }
 }
 
@@ -125,16 +125,16 @@ fn literal_weight(rule: Rule, n: usize, hit: Size) -> Size
 }
 
 // The size of what a node becomes, by the step over it.
-fn weight(x: Step, rule: Rule, hit: Size) -> Size
+fn weight(x: Advance, rule: Rule, hit: Size) -> Size
     requires { ⌜ DimOver x ⌝ }
     ensures { λ r. ⌜ r ≡ weightOver rule hit x ⌝ }
 {
     match x {
-        Step::Leaf(_) => plain_weight(rule, Kind::Nullary),
-        Step::Lit(_, n) => literal_weight(rule, n, hit),
-        Step::One(_) => plain_weight(rule, Kind::Unary),
-        Step::Two(_) => plain_weight(rule, Kind::Binary),
-        Step::Stuck => plain_weight(rule, Kind::Unknown),
+        Advance::Leaf(_) => plain_weight(rule, Kind::Nullary),
+        Advance::Lit(_, n) => literal_weight(rule, n, hit),
+        Advance::One(_) => plain_weight(rule, Kind::Unary),
+        Advance::Two(_) => plain_weight(rule, Kind::Binary),
+        Advance::Stuck => plain_weight(rule, Kind::Unknown),
     }
 }
 

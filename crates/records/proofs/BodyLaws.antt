@@ -19,14 +19,14 @@ use Rattle.kinds.specs.Kinds.{countIn, packed, shapeIn, shapeOf}
 use Rattle.kinds.proofs.KindLaws.{few-at, packed-fields}
 use Rattle.records.specs.Places.{littleAt, ended, valuesEnd}
 use Rattle.records.specs.Bodies.{readable, listedFits}
-use Rattle.records.proofs.PlaceLaws.{little-at, little-short, tail-drop, Leaves, leaves-in, values-leaves, references-leaves}
+use Rattle.records.proofs.PlaceLaws.{little-at, little-short, tail-drop, RestIs, leaves-in, values-leaves, references-leaves}
 
 -- Does the reading end at n?
 abbrev pub endsAt : ℕ → Place → Bool
 endsAt n Ill = false
 endsAt n (To e) = eqb e n
 
-readable-ended : {A : Type 0} (l : List ℕ) {g : Got A} → Leaves l g → readable g ≡ endsAt (length l) (ended l g)
+readable-ended : {A : Type 0} (l : List ℕ) {g : Got A} → RestIs l g → readable g ≡ endsAt (length l) (ended l g)
 readable-ended l fails = refl
 readable-ended l (reads {m = []} t) = sym (eq-eqb (length l - 0) (length l) (omega arith))
 readable-ended l (reads {m = b ∷ m} t) = sym (ne-eqb (length l - length (b ∷ m)) (length l) (λ e. omega (arith, t .fits)))
@@ -45,7 +45,7 @@ pub listed-law : (i n : ℕ) (cs : List Field) (l : List ℕ) → 2 ≤ length l
 unfolding listedFits valuesEnd
 listed-law i n cs l h = go (leaves-in (tail-drop l 2 h) (references-leaves i n (drop 2 l)))
   where
-    go : {g : Got (List ℕ)} → Leaves l g → readable (then g (λ is m. readValues cs m)) ≡ operandsOn cs l (ended l g)
+    go : {g : Got (List ℕ)} → RestIs l g → readable (then g (λ is m. readValues cs m)) ≡ operandsOn cs l (ended l g)
     go fails = refl
     go (reads {m} t) =
         ap (λ (z : List ℕ). readable (readValues cs z)) (t .same)

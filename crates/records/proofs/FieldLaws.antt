@@ -16,7 +16,8 @@ use Rattle.formula.specs.declared.Measured.{Measured}
 use Rattle.formula.specs.declared.Measured.the-variants.{Formula, Ill as ill}
 use Rattle.formula.specs.Formula.{Face, Interval, i0, i1, dim, neg, meet, join}
 use Rattle.formula.specs.Bytes.{Tree, encode, encodeFace, leaf, lit, one, two, Got, nothing, got, then, takeDim, read, nodes, nodesFace, nodesInterval, boundFace, boundInterval, dimWidth, dimAt, maxNodes, maxBound}
-use Rattle.formula.specs.Answers.{pick, keeps, measuredAt}
+use Rattle.formula.specs.Answers.{pick, keeps}
+use Rattle.formula.proofs.Measuring.{measuredAt}
 use Rattle.formula.proofs.Nodes.{made-as, tree-ind}
 use Rattle.calculus.specs.Search.{nodesContext}
 use Rattle.calculus.specs.Record.{Field, number, index, context, end, formula, Value, boundContext, allowed, fields, Values}
@@ -29,7 +30,7 @@ use Rattle.records.specs.declared.fields.End.the-variants.{To, Ill}
 use Rattle.kinds.specs.Kinds.{fieldAs, digitOf, fieldNumbered, packed}
 use Rattle.kinds.proofs.KindLaws.{digit}
 use Rattle.records.specs.Places.{littleAt, ended, readAllowed, endOf, fieldEnd, numberEnd, facesEnd, valuesEnd}
-use Rattle.records.proofs.PlaceLaws.{little-at, little-short, tail-drop, Leaves, leaves-in, field-leaves, ended-drop, ended-fits, ended-map, by-size}
+use Rattle.records.proofs.PlaceLaws.{little-at, little-short, tail-drop, RestIs, leaves-in, field-leaves, ended-drop, ended-fits, ended-map, by-size}
 
 -- The end of what is read at a place, provided that a test passes.
 ended-only : {A : Type 0} (t : Bool) (a : A) (l : List ℕ) (n : ℕ) → n ≤ length l → ended l (only t (got a (drop n l))) ≡ pick t (To n) Ill
@@ -221,7 +222,7 @@ field-fits OneInterval l e h i = end-fits (formula Intervals) l e i
 field-fits Nothing l e h {r} i = let q : e ≡ r = cc in omega arith
 
 -- The first field and those behind it.
-value-first : (c : Field) (cs : List Field) (l : List ℕ) {g : Got (Value c)} → Leaves l g
+value-first : (c : Field) (cs : List Field) (l : List ℕ) {g : Got (Value c)} → RestIs l g
     → ended {A = Values (c ∷ cs)} l (then g (λ x m. only (allowed c x) (then (readValues cs m) (λ xs. got (x, xs))))) ≡ valueOn cs l (ended l (then g (λ x m. only (allowed c x) (got x m))))
 unfolding valuesEnd
 value-first c cs l fails = refl

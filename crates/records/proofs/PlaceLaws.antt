@@ -12,7 +12,8 @@ use Rattle.formula.specs.declared.Size.{Size}
 use Rattle.formula.specs.declared.Measured.{Measured}
 use Rattle.formula.specs.declared.Measured.the-variants.{Formula, Ill as ill}
 use Rattle.formula.specs.Bytes.{Tree, encode, Got, nothing, got, leaf, lit, one, two, then, read, nodes}
-use Rattle.formula.specs.Answers.{sizeOf, frontSize, measuredAt}
+use Rattle.formula.specs.Answers.{sizeOf}
+use Rattle.formula.proofs.Measuring.{frontSize, measuredAt}
 use Rattle.formula.proofs.Nodes.{made-as, tree-ind}
 use Rattle.calculus.specs.Record.{Field, number, index, context, end, formula, facesBytes, allowed}
 use Rattle.calculus.specs.Parse.{takeLittle, readField, readValues, readReferences}
@@ -67,22 +68,22 @@ tail-trans {l} {m} {r} p q =
     }
 
 -- What is read from l leaves an end of l.
-abbrev pub Leaves : {A : Type 0} → List ℕ → Got A → Type 0
-Leaves l g = Post (λ x m. Tail l m) g
+abbrev pub RestIs : {A : Type 0} → List ℕ → Got A → Type 0
+RestIs l g = Post (λ x m. Tail l m) g
 
-pub leaves-in : {A : Type 0} {l m : List ℕ} {g : Got A} → Tail l m → Leaves m g → Leaves l g
+pub leaves-in : {A : Type 0} {l m : List ℕ} {g : Got A} → Tail l m → RestIs m g → RestIs l g
 leaves-in t p = post-map p (λ x r q. tail-trans t q)
 
-little-leaves : (w : ℕ) (l : List ℕ) → Leaves l (takeLittle w l)
+little-leaves : (w : ℕ) (l : List ℕ) → RestIs l (takeLittle w l)
 unfolding takeLittle
 little-leaves zero l = reads (tail-append [] l refl)
 little-leaves (suc w) [] = fails
 little-leaves (suc w) (b ∷ l) = post-then (little-leaves w l) (λ n m t. reads (tail-trans (tail-append (b ∷ []) l refl) t))
 
-formula-leaves : (s : Sort) (l : List ℕ) → Leaves l (read s l)
+formula-leaves : (s : Sort) (l : List ℕ) → RestIs l (read s l)
 formula-leaves s l = post-map (formula-read s l) (λ t m e. tail-append (encode s t) m e)
 
-pub field-leaves : (c : Field) (l : List ℕ) → Leaves l (readField c l)
+pub field-leaves : (c : Field) (l : List ℕ) → RestIs l (readField c l)
 field-leaves number [] = fails
 field-leaves number (n ∷ l) = reads (tail-append (n ∷ []) l refl)
 field-leaves index [] = fails
@@ -91,13 +92,13 @@ field-leaves context l = post-then (little-leaves 2 l) (λ n m t. post-map (face
 field-leaves end l = formula-leaves Intervals l
 field-leaves (formula s) l = formula-leaves s l
 
-pub values-leaves : (cs : List Field) (l : List ℕ) → Leaves l (readValues cs l)
+pub values-leaves : (cs : List Field) (l : List ℕ) → RestIs l (readValues cs l)
 unfolding readValues
 values-leaves [] l = reads (tail-append [] l refl)
 values-leaves (c ∷ cs) l =
     post-then (field-leaves c l) (λ x m t. post-only _ (allowed c x) (λ a. post-then (values-leaves cs m) (λ xs r u. reads (tail-trans t u))))
 
-pub references-leaves : (i n : ℕ) (l : List ℕ) → Leaves l (readReferences i n l)
+pub references-leaves : (i n : ℕ) (l : List ℕ) → RestIs l (readReferences i n l)
 unfolding readReferences
 references-leaves i zero l = reads (tail-append [] l refl)
 references-leaves i (suc n) l =

@@ -1,19 +1,38 @@
--- Why something is refused (document 01, "Questions at the door"); the desk's 10 is a verdict of its own.
-use Rattle.calculus.specs.Emit.{not-below, not-implied}
-use Rattle.calculus.specs.Refusal
-use Rattle.calculus.specs.Refusal.{failing}
-use Rattle.refusals.specs.declared.Refusal.{Refusal as Refused}
-use Rattle.refusals.specs.declared.Refusal.the-variants.{IllFormedLedger, NotAFormula, TooManyNodes, LargeDimension, LargeResult, ShortOutput, FullLedger, NotBelow, NotImplied, NotAccepted}
+-- Refusals: document 01's numbers, and what is answered where something may be refused.
+use Prim.Native.Nat.{ℕ}
+use mathlib.Core.Bool.{Bool, true, false}
+use lib.Dec.{leb}
+use Rattle.refusals.specs.declared.Refusal.{Refusal}
+use Rattle.refusals.specs.declared.Refusal.the-variants.{IllFormedLedger, NotAFormula, TooManyNodes, LargeDimension, LargeResult, ShortOutput, FullLedger, NotBelow, NotImplied, DoesNotFollow, NotAccepted}
 
--- The refusals, in the terms of the calculus.
-abbrev pub refusalOf : Refused → Refusal.Refusal
-refusalOf IllFormedLedger = Refusal.ill-formed-ledger
-refusalOf NotAFormula = Refusal.not-a-formula
-refusalOf TooManyNodes = Refusal.too-many-nodes
-refusalOf LargeDimension = Refusal.large-dimension
-refusalOf LargeResult = Refusal.large-result
-refusalOf ShortOutput = Refusal.short-output
-refusalOf FullLedger = Refusal.full-ledger
-refusalOf NotBelow = failing not-below
-refusalOf NotImplied = failing not-implied
-refusalOf NotAccepted = Refusal.not-accepted
+-- The number of a refusal (document 01, "Questions at the door").
+abbrev pub number : Refusal → ℕ
+number IllFormedLedger = 1
+number NotAFormula = 2
+number TooManyNodes = 3
+number LargeDimension = 4
+number LargeResult = 5
+number ShortOutput = 6
+number FullLedger = 7
+number NotBelow = 8
+number NotImplied = 9
+number DoesNotFollow = 10
+number NotAccepted = 11
+
+-- The one with the lower number: the first no decides.
+abbrev pub firstIf : Bool → Refusal → Refusal → Refusal
+firstIf true e q = e
+firstIf false e q = q
+
+abbrev pub earlier : Refusal → Refusal → Refusal
+earlier e q = firstIf (leb (number e) (number q)) e q
+
+-- What was asked for, or why it is refused. The promises of functions that answer by an enum say which of these each case is.
+pub data Result (A : Type 0) : Type 0 where
+  refused : Refusal → Result A
+  done : A → Result A
+
+-- The same, of what is made of it.
+abbrev pub map : {A B : Type 0} → (A → B) → Result A → Result B
+map f (refused e) = refused e
+map f (done x) = done (f x)

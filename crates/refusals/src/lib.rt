@@ -1,9 +1,8 @@
 // Refusals and document 01's numbers.
 ghost use mathlib.Core.Path.{_≡_};
-ghost use Rattle.calculus.specs.Refusal.{number as numberOf};
-ghost use Rattle.refusals.specs.Refusals.{refusalOf};
+ghost use Rattle.refusals.specs.Refusals.{number as numberOf, earlier as earlierOf};
 
-// Why a call is refused (document 01, "Questions at the door").
+// Why something is refused (document 01, "Questions at the door").
 pub enum Refusal {
     IllFormedLedger,
     NotAFormula,
@@ -14,12 +13,13 @@ pub enum Refusal {
     FullLedger,
     NotBelow,
     NotImplied,
+    DoesNotFollow,
     NotAccepted,
 }
 
 // Document 01's number of a refusal.
 pub fn number(r: Refusal) -> usize
-    ensures { λ n. ⌜ n ≡ numberOf (refusalOf r) ⌝ }
+    ensures { λ n. ⌜ n ≡ numberOf r ⌝ }
 {
     match r {
         Refusal::IllFormedLedger => 1,
@@ -31,6 +31,17 @@ pub fn number(r: Refusal) -> usize
         Refusal::FullLedger => 7,
         Refusal::NotBelow => 8,
         Refusal::NotImplied => 9,
+        Refusal::DoesNotFollow => 10,
         Refusal::NotAccepted => 11,
     }
+}
+
+// The one with the lower number: of two questions answered no the first decides.
+pub fn earlier(e: Refusal, q: Refusal) -> Refusal
+    ensures { λ r. ⌜ r ≡ earlierOf e q ⌝ }
+{
+    if number(e) <= number(q) {
+        return e;
+    }
+    q
 }

@@ -1,7 +1,7 @@
 -- What an answer of the repeat test says of two ledgers. Each theorem is about any r that the contract of `repeats` allows.
 use mathlib.Core.Path.{_≡_, refl, sym, ap, ap₂, _∙_, subst}
 use mathlib.Core.Logic.{_⊎_, inl, inr}
-use mathlib.Core.Bool.{true, false, decide-iff}
+use mathlib.Core.Bool.{Bool, true, false, decide-iff}
 use mathlib.Core.Option.{Option, none, some}
 use mathlib.Core.List.{List, [], _∷_}
 use Prim.Native.Nat.{ℕ}
@@ -13,50 +13,33 @@ use Rattle.calculus.specs.Table.{pEntails, predicate, Listed}
 use Rattle.calculus.specs.Record.{FormedStep}
 use Rattle.calculus.specs.Rules.{AllBelow}
 use Rattle.calculus.specs.Parse.{readLedger}
-use Rattle.calculus.specs.Refusal.{number, ill-formed-ledger}
+use Rattle.refusals.specs.declared.Refusal.{Refusal}
+use Rattle.refusals.specs.declared.Refusal.the-variants.{IllFormedLedger}
+use Rattle.refusals.specs.Refusals.{Result, refused, done}
 use Rattle.calculus.proofs.Fields.{Allowed}
 use Rattle.calculus.proofs.Records.{ledger-read}
-use Rattle.refusals.specs.declared.Refusal.{Refusal as Why}
-use Rattle.refusals.specs.declared.Refusal.the-variants.{IllFormedLedger, NotAFormula, TooManyNodes, LargeDimension, LargeResult, ShortOutput, FullLedger, NotBelow, NotImplied, NotAccepted}
-use Rattle.refusals.specs.Refusals.{refusalOf}
 use Rattle.repeat_test.specs.declared.Compared.{Compared}
 use Rattle.repeat_test.specs.declared.Compared.the-variants.{Repeats, Fresh, Refused}
-use Rattle.repeat_test.specs.Repeats.{SameClaim, sameClaim?, lastStep, endAlike, Said, answered, refused, inDocument, repeatTest}
+use Rattle.repeat_test.specs.Repeats.{SameClaim, sameClaim?, lastStep, endAlike, said, repeatTest}
 use Rattle.repeat_test.proofs.TestLaws.{decide-same}
 use Rattle.repeat_test.proofs.ClaimLaws.{claims, same-judgements, same-back, same-on, same-self, last-formed, entails-kind}
 
 -- Answers -----------------------------------------------------------------------------------------
 
--- Back from what is said: a refusal by its number.
-whyFrom : ℕ → Why
-whyFrom n = getD (IllFormedLedger ∷ IllFormedLedger ∷ NotAFormula ∷ TooManyNodes ∷ LargeDimension ∷ LargeResult ∷ ShortOutput ∷ FullLedger ∷ NotBelow ∷ NotImplied ∷ NotAccepted ∷ []) n NotAccepted
+-- Back from what is said.
+back : Result Bool → Compared
+back (done true) = Repeats
+back (done false) = Fresh
+back (refused e) = Refused e
 
-back : Said → Compared
-back (answered true) = Repeats
-back (answered false) = Fresh
-back (refused n) = Refused (whyFrom n)
-
-why-back : (e : Why) → whyFrom (number (refusalOf e)) ≡ e
-unfolding whyFrom
-why-back IllFormedLedger = refl
-why-back NotAFormula = refl
-why-back TooManyNodes = refl
-why-back LargeDimension = refl
-why-back LargeResult = refl
-why-back ShortOutput = refl
-why-back FullLedger = refl
-why-back NotBelow = refl
-why-back NotImplied = refl
-why-back NotAccepted = refl
-
-said-back : (r : Compared) → back (inDocument r) ≡ r
+said-back : (r : Compared) → back (said r) ≡ r
 unfolding back
 said-back Repeats = refl
 said-back Fresh = refl
-said-back (Refused e) = ap Refused (why-back e)
+said-back (Refused e) = refl
 
--- Document 01's number or value tells the answers apart, so the contract allows one answer only.
-pub said-one : (r q : Compared) → inDocument r ≡ inDocument q → r ≡ q
+-- What is said tells the answers apart, so the contract allows one answer only.
+pub said-one : (r q : Compared) → said r ≡ said q → r ≡ q
 said-one r q e = sym (said-back r) ∙ ap back e ∙ said-back q
 
 -- Ledgers -----------------------------------------------------------------------------------------
@@ -97,7 +80,7 @@ claims-kind b e p =
     let f = ends-formed b e .1 .listed in
     entails-kind (subst (Listed (e .last .kind) (length (e .last .references))) (ap predicate (e .claims) ∙ p) f)
 
-test-alike : (l m : List ℕ) → repeatTest (readLedger l) (readLedger m) ≡ answered true → EndAlike l m
+test-alike : (l m : List ℕ) → repeatTest (readLedger l) (readLedger m) ≡ done true → EndAlike l m
 test-alike l m e = go (readLedger l) (readLedger m) refl refl e
   where
     on : (L M : List Step) → readLedger l ≡ some L → readLedger m ≡ some M → (o p : Option Step) → lastStep L ≡ o → lastStep M ≡ p → endAlike o p ≡ true → EndAlike l m
@@ -112,18 +95,18 @@ test-alike l m e = go (readLedger l) (readLedger m) refl refl e
           same = decide-iff (sameClaim? (s .judgement) (t .judgement)) .0 h;
         }
 
-    go : (o p : Option (List Step)) → readLedger l ≡ o → readLedger m ≡ p → repeatTest o p ≡ answered true → EndAlike l m
+    go : (o p : Option (List Step)) → readLedger l ≡ o → readLedger m ≡ p → repeatTest o p ≡ done true → EndAlike l m
     go none p x y h = absurd (let z : _≡_ {A = ℕ} 0 1 = cc in omega arith)
     go (some L) none x y h = absurd (let z : _≡_ {A = ℕ} 0 1 = cc in omega arith)
     go (some L) (some M) x y h = on L M x y (lastStep L) (lastStep M) refl refl (cc)
 
-alike-test : (l m : List ℕ) → EndAlike l m → repeatTest (readLedger l) (readLedger m) ≡ answered true
+alike-test : (l m : List ℕ) → EndAlike l m → repeatTest (readLedger l) (readLedger m) ≡ done true
 alike-test l m e =
     let x = e .left in
     let y = e .right in
     let s : SameClaim (x .last .judgement) (y .last .judgement) = subst (λ (i : Judgement). SameClaim i (y .last .judgement)) (sym (x .claims)) (subst (SameClaim (e .j)) (sym (y .claims)) (e .same)) in
     ap₂ repeatTest (x .reads) (y .reads)
-    ∙ ap answered (ap₂ endAlike (x .ends) (y .ends) ∙ decide-iff (sameClaim? (x .last .judgement) (y .last .judgement)) .1 s)
+    ∙ ap done (ap₂ endAlike (x .ends) (y .ends) ∙ decide-iff (sameClaim? (x .last .judgement) (y .last .judgement)) .1 s)
 
 -- A ledger ends in one judgement.
 ends-one : {l : List ℕ} {j k : Judgement} → EndsIn l j → EndsIn l k → j ≡ k
@@ -134,11 +117,11 @@ ends-one {l} x y = go l (x .steps) (y .steps) (x .last) (y .last) (x .reads) (y 
 
 -- An answer ------------------------------------------------------------------------------------------
 
-module _ (l m : List ℕ) {r : Compared} (e : inDocument r ≡ repeatTest (readLedger l) (readLedger m)) where
+module _ (l m : List ℕ) {r : Compared} (e : said r ≡ repeatTest (readLedger l) (readLedger m)) where
   -- Yes exactly where both end in the claim that a implies b over d, the same d, a and b.
   pub repeats-claims : AllBelow 256 l → AllBelow 256 m → r ≡ Repeats → BothClaim l m
   repeats-claims x y h =
-      let q = test-alike l m (sym e ∙ ap inDocument h) in
+      let q = test-alike l m (sym e ∙ ap said h) in
       let c = claims (q .j) (q .same .left) in
       let s = same-judgements (ends-allowed x (q .left)) (ends-allowed y (q .right)) (q .same) in
       record { d = c .d; a = c .a; b = c .b; left = subst (EndsIn l) (c .is) (q .left); right = subst (EndsIn m) (sym s ∙ c .is) (q .right) }
@@ -147,10 +130,10 @@ module _ (l m : List ℕ) {r : Compared} (e : inDocument r ≡ repeatTest (readL
   claims-repeats c = said-one r Repeats (e ∙ alike-test l m (record { j = entails (c .d) (c .a) (c .b); k = entails (c .d) (c .a) (c .b); left = c .left; right = c .right; same = same-self refl }))
 
   -- Refused exactly where either is no ledger, and by 1.
-  pub refused-ill : {f : Why} → r ≡ Refused f → (readLedger l ≡ none) ⊎ (readLedger m ≡ none)
-  refused-ill {f} h = go (readLedger l) (readLedger m) refl refl (sym e ∙ ap inDocument h)
+  pub refused-ill : {f : Refusal} → r ≡ Refused f → (readLedger l ≡ none) ⊎ (readLedger m ≡ none)
+  refused-ill {f} h = go (readLedger l) (readLedger m) refl refl (sym e ∙ ap said h)
     where
-      go : (o p : Option (List Step)) → readLedger l ≡ o → readLedger m ≡ p → repeatTest o p ≡ refused (number (refusalOf f)) → (readLedger l ≡ none) ⊎ (readLedger m ≡ none)
+      go : (o p : Option (List Step)) → readLedger l ≡ o → readLedger m ≡ p → repeatTest o p ≡ refused f → (readLedger l ≡ none) ⊎ (readLedger m ≡ none)
       go none p x y h = inl x
       go (some L) none x y h = inr y
       go (some L) (some M) x y h = absurd (let z : _≡_ {A = ℕ} 0 1 = cc in omega arith)
@@ -159,7 +142,7 @@ module _ (l m : List ℕ) {r : Compared} (e : inDocument r ≡ repeatTest (readL
   ill-refused (inl x) = said-one r (Refused IllFormedLedger) (e ∙ ap (λ (o : Option (List Step)). repeatTest o (readLedger m)) x)
   ill-refused (inr y) = said-one r (Refused IllFormedLedger) (e ∙ ap (repeatTest (readLedger l)) y ∙ go (readLedger l))
     where
-      go : (o : Option (List Step)) → repeatTest o none ≡ refused (number ill-formed-ledger)
+      go : (o : Option (List Step)) → repeatTest o none ≡ refused IllFormedLedger
       go none = refl
       go (some L) = refl
 
@@ -169,7 +152,7 @@ module _ (l m : List ℕ) {r : Compared} (e : inDocument r ≡ repeatTest (readL
   empty-fresh M x y = said-one r Fresh (e ∙ ap₂ repeatTest x y)
 
   -- The answer does not depend on which ledger is named first.
-  pub symmetric : {q : Compared} → inDocument q ≡ repeatTest (readLedger m) (readLedger l) → r ≡ q
+  pub symmetric : {q : Compared} → said q ≡ repeatTest (readLedger m) (readLedger l) → r ≡ q
   symmetric {q} f = said-one r q (e ∙ tests (readLedger l) (readLedger m) ∙ sym f)
     where
       ends : (o p : Option Step) → endAlike o p ≡ endAlike p o
@@ -182,20 +165,20 @@ module _ (l m : List ℕ) {r : Compared} (e : inDocument r ≡ repeatTest (readL
       tests none none = refl
       tests none (some M) = refl
       tests (some L) none = refl
-      tests (some L) (some M) = ap answered (ends (lastStep L) (lastStep M))
+      tests (some L) (some M) = ap done (ends (lastStep L) (lastStep M))
 
   -- What repeats a repeat repeats the first.
-  pub transitive : (n : List ℕ) {q p : Compared} → inDocument q ≡ repeatTest (readLedger m) (readLedger n) → inDocument p ≡ repeatTest (readLedger l) (readLedger n) → r ≡ Repeats → q ≡ Repeats → p ≡ Repeats
+  pub transitive : (n : List ℕ) {q p : Compared} → said q ≡ repeatTest (readLedger m) (readLedger n) → said p ≡ repeatTest (readLedger l) (readLedger n) → r ≡ Repeats → q ≡ Repeats → p ≡ Repeats
   transitive n {q} {p} f g x y =
-      let a = test-alike l m (sym e ∙ ap inDocument x) in
-      let b = test-alike m n (sym f ∙ ap inDocument y) in
+      let a = test-alike l m (sym e ∙ ap said x) in
+      let b = test-alike m n (sym f ∙ ap said y) in
       let s = subst (SameClaim (a .j)) (ends-one (a .right) (b .left)) (a .same) in
       said-one p Repeats (g ∙ alike-test l n (record { j = a .j; k = b .k; left = a .left; right = b .right; same = same-on s (b .same) }))
 
 -- A ledger repeats itself exactly where it ends in an entails step.
-module _ (l : List ℕ) {r : Compared} (e : inDocument r ≡ repeatTest (readLedger l) (readLedger l)) where
+module _ (l : List ℕ) {r : Compared} (e : said r ≡ repeatTest (readLedger l) (readLedger l)) where
   pub self-claims : r ≡ Repeats → (j : Judgement) × EndsIn l j × (predicate j ≡ pEntails)
-  self-claims h = let q = test-alike l l (sym e ∙ ap inDocument h) in (q .j, q .left, q .same .left)
+  self-claims h = let q = test-alike l l (sym e ∙ ap said h) in (q .j, q .left, q .same .left)
 
   pub claims-self : {j : Judgement} → EndsIn l j → predicate j ≡ pEntails → r ≡ Repeats
   claims-self {j} x p = said-one r Repeats (e ∙ alike-test l l (record { j = j; k = j; left = x; right = x; same = same-self p }))

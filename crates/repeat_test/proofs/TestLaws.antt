@@ -13,13 +13,14 @@ use Rattle.calculus.specs.Table.{Pred, pEntails, predicate}
 use Rattle.calculus.specs.Rules.{stepAt, judgementAt}
 use Rattle.calculus.specs.Record.{operandBytes}
 use Rattle.calculus.specs.Parse.{readLedger}
-use Rattle.calculus.specs.Refusal.{number, ill-formed-ledger}
+use Rattle.refusals.specs.declared.Refusal.the-variants.{IllFormedLedger}
+use Rattle.refusals.specs.Refusals.{refused, done}
 use Rattle.kinds.specs.Kinds.{numberOf, predicateOf}
 use Rattle.kinds.proofs.KindLaws.{numbered}
 use Rattle.ledger.specs.declared.Checked.the-variants.{Steps, Ill}
 use Rattle.ledger.specs.Checks.{counted}
 use Rattle.ledger.specs.Ledger.{stepsIn, stepsOf}
-use Rattle.repeat_test.specs.Repeats.{SameClaim, sameClaim?, lastStep, endAlike, answered, refused, repeatTest}
+use Rattle.repeat_test.specs.Repeats.{SameClaim, sameClaim?, lastStep, endAlike, repeatTest}
 
 pub decide-no : {A : Type 0} (d : Dec A) → (A → ⊥) → decide d ≡ false
 unfolding decide
@@ -96,28 +97,28 @@ module _ (l m : List ℕ) {n k : ℕ} (a : counted (readLedger l) ≡ Steps n) (
   by-last {i} {j} p q e = e ∙ sym (ap₂ endAlike (last-at (stepsOf l) i (p ∙ sym (counted-steps l a))) (last-at (stepsOf m) j (q ∙ sym (counted-steps m b))))
 
   -- Two ledgers that were read are answered by how they end.
-  pub both-read : repeatTest (readLedger l) (readLedger m) ≡ answered (endAlike (lastStep (stepsOf l)) (lastStep (stepsOf m)))
+  pub both-read : repeatTest (readLedger l) (readLedger m) ≡ done (endAlike (lastStep (stepsOf l)) (lastStep (stepsOf m)))
   unfolding stepsOf
   both-read = go (readLedger l) (readLedger m) a b
     where
-      go : (o p : Option (List Step)) → counted o ≡ Steps n → counted p ≡ Steps k → repeatTest o p ≡ answered (endAlike (lastStep (stepsIn o)) (lastStep (stepsIn p)))
+      go : (o p : Option (List Step)) → counted o ≡ Steps n → counted p ≡ Steps k → repeatTest o p ≡ done (endAlike (lastStep (stepsIn o)) (lastStep (stepsIn p)))
       go none p x y = absurd (let z : _≡_ {A = ℕ} 0 1 = cc in omega arith)
       go (some L) none x y = absurd (let z : _≡_ {A = ℕ} 0 1 = cc in omega arith)
       go (some L) (some M) x y = refl
 
 -- Bytes that are no ledger are refused, whatever the others are.
 module _ (l m : List ℕ) where
-  pub ill-left : counted (readLedger l) ≡ Ill → refused (number ill-formed-ledger) ≡ repeatTest (readLedger l) (readLedger m)
+  pub ill-left : counted (readLedger l) ≡ Ill → refused IllFormedLedger ≡ repeatTest (readLedger l) (readLedger m)
   ill-left h = go (readLedger l) h
     where
-      go : (o : Option (List Step)) → counted o ≡ Ill → refused (number ill-formed-ledger) ≡ repeatTest o (readLedger m)
+      go : (o : Option (List Step)) → counted o ≡ Ill → refused IllFormedLedger ≡ repeatTest o (readLedger m)
       go none h = refl
       go (some L) h = absurd (let z : _≡_ {A = ℕ} 0 1 = cc in omega arith)
 
-  pub ill-right : counted (readLedger m) ≡ Ill → refused (number ill-formed-ledger) ≡ repeatTest (readLedger l) (readLedger m)
+  pub ill-right : counted (readLedger m) ≡ Ill → refused IllFormedLedger ≡ repeatTest (readLedger l) (readLedger m)
   ill-right h = go (readLedger l) (readLedger m) h
     where
-      go : (o p : Option (List Step)) → counted p ≡ Ill → refused (number ill-formed-ledger) ≡ repeatTest o p
+      go : (o p : Option (List Step)) → counted p ≡ Ill → refused IllFormedLedger ≡ repeatTest o p
       go none p h = refl
       go (some L) none h = refl
       go (some L) (some M) h = absurd (let z : _≡_ {A = ℕ} 0 1 = cc in omega arith)

@@ -8,8 +8,8 @@ use native.Mathlib.Decide.{ℕ-discrete}
 use Rattle.calculus.specs.Judgement.{Judgement, Step, sameList}
 use Rattle.calculus.specs.Table.{pEntails, Pred-discrete, predicate}
 use Rattle.calculus.specs.Record.{operandBytes}
-use Rattle.calculus.specs.Refusal.{number, ill-formed-ledger}
-use Rattle.refusals.specs.Refusals.{refusalOf}
+use Rattle.refusals.specs.declared.Refusal.the-variants.{IllFormedLedger}
+use Rattle.refusals.specs.Refusals.{Result, refused, done}
 use Rattle.repeat_test.specs.declared.Compared.{Compared}
 use Rattle.repeat_test.specs.declared.Compared.the-variants.{Repeats, Fresh, Refused}
 
@@ -41,19 +41,14 @@ endAlike none t = false
 endAlike (some s) none = false
 endAlike (some s) (some t) = decide (sameClaim? (s .judgement) (t .judgement))
 
--- An answer in document 01's terms: whether the ledgers repeat each other, or the number of a refusal.
-pub data Said : Type 0 where
-  answered : Bool → Said
-  refused : ℕ → Said
-
--- Document 01's number or value for each answer.
-abbrev pub inDocument : Compared → Said
-inDocument Repeats = answered true
-inDocument Fresh = answered false
-inDocument (Refused e) = refused (number (refusalOf e))
+-- What each answer says: whether the ledgers repeat each other, or the refusal.
+abbrev pub said : Compared → Result Bool
+said Repeats = done true
+said Fresh = done false
+said (Refused e) = refused e
 
 -- The repeat test on the steps that two ledgers were read as: 1 where either is ill formed, else whether they end alike.
-abbrev pub repeatTest : Option (List Step) → Option (List Step) → Said
-repeatTest none m = refused (number ill-formed-ledger)
-repeatTest (some L) none = refused (number ill-formed-ledger)
-repeatTest (some L) (some M) = answered (endAlike (lastStep L) (lastStep M))
+abbrev pub repeatTest : Option (List Step) → Option (List Step) → Result Bool
+repeatTest none m = refused IllFormedLedger
+repeatTest (some L) none = refused IllFormedLedger
+repeatTest (some L) (some M) = done (endAlike (lastStep L) (lastStep M))

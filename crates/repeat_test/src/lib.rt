@@ -9,7 +9,7 @@ ghost use Rattle.calculus.specs.Record.{operandBytes};
 ghost use Rattle.calculus.specs.Parse.{readLedger};
 ghost use Rattle.ledger.specs.Checks.{counted};
 ghost use Rattle.ledger.specs.Ledger.{stepsOf, Points};
-ghost use Rattle.repeat_test.specs.Repeats.{sameClaim?, lastStep, endAlike, inDocument, repeatTest};
+ghost use Rattle.repeat_test.specs.Repeats.{sameClaim?, lastStep, endAlike, said, repeatTest};
 
 // Whether two ledgers repeat each other, or why they are refused.
 pub enum Compared {
@@ -60,7 +60,7 @@ fn end_alike(l: &[u8], n: usize, m: &[u8], k: usize) -> bool
 
 // Whether both ledgers end in an entails step with equal operand bytes; 1 where either is ill formed.
 pub fn repeats(l: &[u8], m: &[u8]) -> Compared
-    ensures { λ r. ⌜ inDocument r ≡ repeatTest (readLedger (now (l .entry))) (readLedger (now (m .entry))) ⌝ }
+    ensures { λ r. ⌜ said r ≡ repeatTest (readLedger (now (l .entry))) (readLedger (now (m .entry))) ⌝ }
 {
     let Checked::Steps(n) = ledger::well_formed(l) else {
         return Compared::Refused(Refusal::IllFormedLedger);

@@ -8,17 +8,17 @@ mod tally;
 use crate::input::Heading;
 use crate::judge::Said;
 use formula::Sort;
-use replies::Answer;
+use replies::Called;
 use replies::Made;
 
-fn step(a: Answer) -> Said {
+fn step(a: Called) -> Said {
     match a {
-        Answer::Step(n) => Said {
+        Called::Step(n) => Said {
             yes: true,
             number: n,
             len: 0,
         },
-        Answer::Refused(q) => Said {
+        Called::Refused(q) => Said {
             yes: false,
             number: refusals::number(q),
             len: 0,

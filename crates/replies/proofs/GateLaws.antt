@@ -9,7 +9,7 @@ use lib.Dec.{leb}
 use borrow.Author.Tests.{leb-true, leb-false, le-leb, lt-leb}
 use Rattle.formula.specs.declared.Sort.{Sort}
 use Rattle.formula.specs.Bytes.{Tree, readAll, nodes, bound, maxNodes, maxBound}
-use Rattle.formula.specs.Answers.{measuredAs, measured}
+use Rattle.formula.proofs.Measuring.{measuredAs, measured}
 use Rattle.formula.specs.declared.Measured.{Measured}
 use Rattle.formula.specs.declared.Measured.the-variants.{Formula, Ill as not-one}
 use Rattle.formula.proofs.Reading.{encode-readAll}
@@ -17,7 +17,8 @@ use Rattle.calculus.specs.Judgement.{Step}
 use Rattle.calculus.specs.Rules.{AllBelow}
 use Rattle.calculus.specs.Record.{fewNodes, lowBound}
 use Rattle.calculus.specs.Parse.{readLedger}
-use Rattle.calculus.specs.Refusal.{too-many-nodes, large-dimension}
+use Rattle.refusals.specs.declared.Refusal.{Refusal}
+use Rattle.refusals.specs.declared.Refusal.the-variants.{IllFormedLedger, NotAFormula, TooManyNodes, LargeDimension}
 use Rattle.calculus.specs.Door.{Call, Task, taskOf, outputsOf, every, refuse, reply}
 use Rattle.calculus.proofs.Doors.{unreadable, not-read, turned-away}
 use Rattle.calculus.proofs.Records.{ledger-read}
@@ -28,11 +29,8 @@ use Rattle.ledger.specs.declared.Checked.the-variants.{Steps, Ill}
 use Rattle.ledger.proofs.LedgerLaws.{holds-led}
 use Rattle.steps.specs.Trees.{Known}
 use Rattle.steps.proofs.TreeLaws.{known}
-use Rattle.refusals.specs.declared.Refusal.the-variants.{IllFormedLedger, NotAFormula, TooManyNodes, LargeDimension}
-use Rattle.refusals.specs.declared.Refusal.{Refusal as Refused}
 use Rattle.replies.specs.declared.Gate.{Gate}
 use Rattle.replies.specs.declared.Gate.the-variants.{Open, Shut}
-use Rattle.refusals.specs.Refusals.{refusalOf}
 use Rattle.replies.specs.Asking.{limitsGate, ledgerGate, operandGate, operandsGate}
 
 -- A number is at least both where it is at least the larger.
@@ -44,24 +42,24 @@ leb-max a b n = go (leb a n) (leb b n) refl refl
     go true false p q = lt-leb (max a b) n (omega (arith, leb-false b n q))
     go false y p q = lt-leb (max a b) n (omega (arith, leb-false a n p))
 
-shut-same : {x y : Refused} → Shut x ≡ Shut y → x ≡ y
+shut-same : {x y : Refusal} → Shut x ≡ Shut y → x ≡ y
 shut-same e = cc
 
-open-shut : {A : Type 0} {x : Refused} → Open ≡ Shut x → A
+open-shut : {A : Type 0} {x : Refusal} → Open ≡ Shut x → A
 open-shut e = absurd (let z : _≡_ {A = ℕ} 0 1 = cc in omega arith)
 
-shut-open : {A : Type 0} {x : Refused} → Shut x ≡ Open → A
+shut-open : {A : Type 0} {x : Refusal} → Shut x ≡ Open → A
 shut-open e = open-shut (sym e)
 
 -- The refusal that was found is the model's.
-refused-as : (c : Call) (l : List ℕ) (x : Refused) {e : Refused} → Shut x ≡ Shut e → reply c l ≡ refuse (refusalOf x) l (outputsOf c) → reply c l ≡ refuse (refusalOf e) l (outputsOf c)
-refused-as c l x h p = p ∙ ap (λ (y : Refused). refuse (refusalOf y) l (outputsOf c)) (shut-same h)
+refused-as : (c : Call) (l : List ℕ) (x : Refusal) {e : Refusal} → Shut x ≡ Shut e → reply c l ≡ refuse x l (outputsOf c) → reply c l ≡ refuse e l (outputsOf c)
+refused-as c l x h p = p ∙ ap (λ (y : Refusal). refuse y l (outputsOf c)) (shut-same h)
 
-limits-shut : (c : Call) (t : Task) (l : List ℕ) (L : List Step) (e : Refused) → readLedger l ≡ some L → taskOf c ≡ some t → (x y : Bool) → every fewNodes (t .operands) ≡ x → every lowBound (t .operands) ≡ y
-    → limitsGate x y ≡ Shut e → reply c l ≡ refuse (refusalOf e) l (outputsOf c)
+limits-shut : (c : Call) (t : Task) (l : List ℕ) (L : List Step) (e : Refusal) → readLedger l ≡ some L → taskOf c ≡ some t → (x y : Bool) → every fewNodes (t .operands) ≡ x → every lowBound (t .operands) ≡ y
+    → limitsGate x y ≡ Shut e → reply c l ≡ refuse e l (outputsOf c)
 limits-shut c t l L e h i true true p q g = open-shut g
-limits-shut c t l L e h i true false p q g = refused-as c l LargeDimension g (turned-away c t large-dimension l L h i (rw (p, q)))
-limits-shut c t l L e h i false y p q g = refused-as c l TooManyNodes g (turned-away c t too-many-nodes l L h i (rw p))
+limits-shut c t l L e h i true false p q g = refused-as c l LargeDimension g (turned-away c t LargeDimension l L h i (rw (p, q)))
+limits-shut c t l L e h i false y p q g = refused-as c l TooManyNodes g (turned-away c t TooManyNodes l L h i (rw p))
 
 limits-open : (x y : Bool) → limitsGate x y ≡ Open → (x ≡ true) × (y ≡ true)
 limits-open true true g = (refl, refl)
@@ -80,11 +78,11 @@ pub record OneOperand (c : Call) (s : Sort) (f : List ℕ) (low : Bool) : Type 0
   pub few : (t : Tree s) → every fewNodes ((task t) .operands) ≡ leb (nodes s t) maxNodes
   pub lows : (t : Tree s) → every lowBound ((task t) .operands) ≡ (low && leb (bound s t) maxBound)
 
-pub one-shut : {c : Call} {s : Sort} {f : List ℕ} {low : Bool} → OneOperand c s f low → (l : List ℕ) {e : Refused} → ledgerGate (readLedger l) (operandGate s (readAll s f) low) ≡ Shut e
-    → reply c l ≡ refuse (refusalOf e) l (outputsOf c)
+pub one-shut : {c : Call} {s : Sort} {f : List ℕ} {low : Bool} → OneOperand c s f low → (l : List ℕ) {e : Refusal} → ledgerGate (readLedger l) (operandGate s (readAll s f) low) ≡ Shut e
+    → reply c l ≡ refuse e l (outputsOf c)
 one-shut {c} {s} {f} {low} w l {e} g = go (readLedger l) refl (readAll s f) refl g
   where
-    go : (o : Option (List Step)) → readLedger l ≡ o → (p : Option (Tree s)) → readAll s f ≡ p → ledgerGate o (operandGate s p low) ≡ Shut e → reply c l ≡ refuse (refusalOf e) l (outputsOf c)
+    go : (o : Option (List Step)) → readLedger l ≡ o → (p : Option (Tree s)) → readAll s f ≡ p → ledgerGate o (operandGate s p low) ≡ Shut e → reply c l ≡ refuse e l (outputsOf c)
     go none h p i g = refused-as c l IllFormedLedger g (unreadable c l h)
     go (some L) h none i g = refused-as c l NotAFormula g (not-read c l L h (w .ill i))
     go (some L) h (some t) i g = limits-shut c (w .task t) l L e h (w .reads t i) (leb (nodes s t) maxNodes) (low && leb (bound s t) maxBound) (w .few t) (w .lows t) g
@@ -109,12 +107,12 @@ pub record TwoOperands (c : Call) (s : Sort) (f : List ℕ) (z : Sort) (g : List
   pub few : (t : Tree s) (u : Tree z) → every fewNodes ((task t u) .operands) ≡ (leb (nodes s t) maxNodes && leb (nodes z u) maxNodes)
   pub lows : (t : Tree s) (u : Tree z) → every lowBound ((task t u) .operands) ≡ (low && (leb (bound s t) maxBound && leb (bound z u) maxBound))
 
-pub two-shut : {c : Call} {s z : Sort} {f g : List ℕ} {low : Bool} → TwoOperands c s f z g low → (l : List ℕ) {e : Refused} → ledgerGate (readLedger l) (operandsGate s (readAll s f) z (readAll z g) low) ≡ Shut e
-    → reply c l ≡ refuse (refusalOf e) l (outputsOf c)
+pub two-shut : {c : Call} {s z : Sort} {f g : List ℕ} {low : Bool} → TwoOperands c s f z g low → (l : List ℕ) {e : Refusal} → ledgerGate (readLedger l) (operandsGate s (readAll s f) z (readAll z g) low) ≡ Shut e
+    → reply c l ≡ refuse e l (outputsOf c)
 two-shut {c} {s} {z} {f} {g} {low} w l {e} k = go (readLedger l) refl (readAll s f) refl (readAll z g) refl k
   where
     go : (o : Option (List Step)) → readLedger l ≡ o → (p : Option (Tree s)) → readAll s f ≡ p → (q : Option (Tree z)) → readAll z g ≡ q → ledgerGate o (operandsGate s p z q low) ≡ Shut e
-        → reply c l ≡ refuse (refusalOf e) l (outputsOf c)
+        → reply c l ≡ refuse e l (outputsOf c)
     go none h p i q j k = refused-as c l IllFormedLedger k (unreadable c l h)
     go (some L) h none i q j k = refused-as c l NotAFormula k (not-read c l L h (w .ill-left i))
     go (some L) h (some t) i none j k = refused-as c l NotAFormula k (not-read c l L h (w .ill-right t i j))

@@ -11,7 +11,7 @@ use formula::Size;
 use refusals::Refusal;
 
 // The number of the step with the call's own judgement, or a refusal.
-pub enum Answer {
+pub enum Called {
     Step(usize),
     Refused(Refusal),
 }

@@ -17,7 +17,7 @@ use Rattle.formula.specs.Operations
 use Rattle.formula.specs.Operations.{shift, subst, transform}
 use Rattle.formula.specs.Bytes.{Tree, readAll, nodes, bound, maxNodes, maxBound}
 use Rattle.operations.specs.Results.{limited, ofOne, ofTwo, foralled, transformed, Answered}
-use Rattle.operations.specs.declared.Outcome.{Outcome}
+use Rattle.operations.specs.declared.Sized.{Sized}
 use Rattle.calculus.specs.Parse.{readLedger}
 use Rattle.calculus.specs.Record.{index, formula, fewNodes, lowBound}
 use Rattle.calculus.specs.Calls.{foralls, emitForall}
@@ -80,7 +80,7 @@ module _ (f : List ℕ) (k : ℕ) (out : List ℕ) where
   pub forall-result : {l : List ℕ} → Led l → Known Faces f → k < 255 → OneResult (Door.forall f k out) (forallTask k (treeOf Faces f)) Faces (Operations.forall k (treeOf Faces f)) out l
   forall-result d h i = record { results = refl; outputs = refl; reads = forall-reads (treeOf Faces f) (read-known h); keep = ((h .few, h .low), ((omega arith, i), tt)); led = d }
 
-  pub forall-computed : {d d′ : List ℕ} {r : Outcome} → Known Faces f → 1022 ≤ length d → Answered Faces (foralled k f) d r d′ → Computed Faces (Operations.forall k (treeOf Faces f)) d′ r
+  pub forall-computed : {d d′ : List ℕ} {r : Sized} → Known Faces f → 1022 ≤ length d → Answered Faces (foralled k f) d r d′ → Computed Faces (Operations.forall k (treeOf Faces f)) d′ r
   unfolding foralled
   forall-computed h w a = computed Faces (Operations.forall k (treeOf Faces f)) (ap (ofOne (λ t. limited Faces (Operations.forall k t))) (operand-known h)) w a
 
@@ -115,7 +115,7 @@ module _ (s : Sort) (t r out : List ℕ) where
   change-kept (DShift k) h p = ap (ofOne (λ x. limited s (transform s (shift k) x))) (operand-known h)
   change-kept (DSubst k) h p = ap₂ (ofTwo (λ x q. limited s (transform s (subst k q) x))) (operand-known h) (operand-known (p .1))
 
-  pub change-computed : {d d′ : List ℕ} {x : Outcome} (o : Asked) → Known s t → KnownOp o r → 1022 ≤ length d → Answered s (transformed s o t r) d x d′ → Computed s (transform s (opOf o r) (treeOf s t)) d′ x
+  pub change-computed : {d d′ : List ℕ} {x : Sized} (o : Asked) → Known s t → KnownOp o r → 1022 ≤ length d → Answered s (transformed s o t r) d x d′ → Computed s (transform s (opOf o r) (treeOf s t)) d′ x
   change-computed o h p w a = computed s (transform s (opOf o r) (treeOf s t)) (change-kept o h p) w a
 
 module _ (s : Sort) (t : List ℕ) (k : ℕ) where

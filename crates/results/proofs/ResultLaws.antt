@@ -11,11 +11,11 @@ use lib.Seq.{length-take-le}
 use borrow.Author.Tests.{le-leb, lt-leb}
 use Rattle.formula.specs.declared.Sort.{Sort}
 use Rattle.formula.specs.declared.Size.{Size}
-use Rattle.operations.specs.declared.Outcome.{Outcome}
-use Rattle.operations.specs.declared.Outcome.the-variants.{Ill, Over, Short, Done}
+use Rattle.operations.specs.declared.Sized.{Sized}
+use Rattle.operations.specs.declared.Sized.the-variants.{Fits, Refused}
 use Rattle.formula.specs.Bytes.{Tree, encode, nodes, bound, maxNodes, maxBound}
 use Rattle.formula.specs.Answers.{sizeOf, keeps}
-use Rattle.operations.specs.Results.{Kept, over, limited, outcome, Answered}
+use Rattle.operations.specs.Results.{saidSized, limited, roomed, Answered}
 use Rattle.operations.proofs.AnswerLaws.{keeps-limits}
 use Rattle.calculus.specs.Record.{formula, size, fewNodes, lowBound}
 use Rattle.calculus.specs.Door.{Call, Item, item, Task, taskOf, outputsOf, answered, every, longEnough}
@@ -25,23 +25,25 @@ use Rattle.steps.specs.declared.Ran.{Ran}
 use Rattle.steps.specs.Running.{RunsOn}
 use Rattle.steps.specs.Trees.{Is}
 use Rattle.steps.proofs.TreeLaws.{is-short}
-use Rattle.transforms.proofs.ImageLaws.{limited-is, outcome-kept, in-front}
+use Rattle.transforms.proofs.ImageLaws.{limited-is, roomed-kept, in-front}
+use Rattle.refusals.specs.declared.Refusal.{Refusal}
 use Rattle.refusals.specs.declared.Refusal.the-variants.{LargeResult, ShortOutput}
-use Rattle.replies.specs.declared.Answer.{Answer}
-use Rattle.replies.specs.declared.Answer.the-variants.{Step, Refused}
+use Rattle.refusals.specs.Refusals.{Result, refused, done}
+use Rattle.replies.specs.declared.Called.{Called}
+use Rattle.replies.specs.declared.Called.the-variants.{Step, Refused}
 use Rattle.replies.specs.declared.Made.{Made}
 use Rattle.replies.specs.declared.Made.the-variants.{Refused as refusedMade}
 use Rattle.replies.specs.Replying.{measureOf, saidOne, Replies}
 use Rattle.replies.specs.Ending.{Ending, madeBy, outBy}
-use Rattle.results.specs.Calls.{Result}
+use Rattle.results.specs.Calls.{Gives}
 use Rattle.replies.proofs.ReplyLaws.{finished, too-large, too-short, replied}
 
 -- What was computed: the result, or that it is over the limits.
-pub data Computed (s : Sort) (t : Tree s) (d : List ℕ) (r : Outcome) : Type 0 where
-  fits : r ≡ Done (sizeOf s t) → Is s t (encode s t) → length (encode s t) ≤ length d → take (length (encode s t)) d ≡ encode s t → Computed s t d r
-  too-big : r ≡ Over → keeps (sizeOf s t) ≡ false → Computed s t d r
+pub data Computed (s : Sort) (t : Tree s) (d : List ℕ) (r : Sized) : Type 0 where
+  fits : saidSized r ≡ done (sizeOf s t) → Is s t (encode s t) → length (encode s t) ≤ length d → take (length (encode s t)) d ≡ encode s t → Computed s t d r
+  too-big : saidSized r ≡ refused LargeResult → keeps (sizeOf s t) ≡ false → Computed s t d r
 
-pub computed : (s : Sort) (t : Tree s) {x : Kept (Tree s)} {d d′ : List ℕ} {r : Outcome} → x ≡ limited s t → 1022 ≤ length d → Answered s x d r d′ → Computed s t d′ r
+pub computed : (s : Sort) (t : Tree s) {x : Result (Tree s)} {d d′ : List ℕ} {r : Sized} → x ≡ limited s t → 1022 ≤ length d → Answered s x d r d′ → Computed s t d′ r
 computed s t {x} {d} {d′} {r} e w a = go (keeps (sizeOf s t)) refl
   where
     go : (b : Bool) → keeps (sizeOf s t) ≡ b → Computed s t d′ r
@@ -51,46 +53,30 @@ computed s t {x} {d} {d′} {r} e w a = go (keeps (sizeOf s t)) refl
         let y = e ∙ limited-is i in
         let u : length (encode s t) ≤ length d = omega (arith, is-short i) in
         let f = in-front s y u d refl (a .leaves) in
-        fits (a .says ∙ outcome-kept s y u) i (f .inside) (f .bytes)
+        fits (a .says ∙ roomed-kept s y u) i (f .inside) (f .bytes)
     go false k =
-        let o : limited s t ≡ over = rw k refl in
-        too-big (a .says ∙ ap (λ y. outcome s y (length d)) (e ∙ o)) k
+        let o : limited s t ≡ refused LargeResult = rw k refl in
+        too-big (a .says ∙ ap (λ y. roomed s y (length d)) (e ∙ o)) k
 
 -- By the answer.
-other : {A : Type 0} {r x y : Outcome} → r ≡ x → r ≡ y → (x ≡ y → _≡_ {A = ℕ} 0 1) → A
-other p q h = absurd (let z = h (sym p ∙ q) in omega arith)
-
-module _ {s : Sort} {t : Tree s} {d : List ℕ} {r : Outcome} (c : Computed s t d r) where
-  pub result-done : (z : Size) → r ≡ Done z → Result s t (take (z .len) d) z × (z .len ≤ length d) × (length (take (z .len) d) ≡ z .len)
+module _ {s : Sort} {t : Tree s} {d : List ℕ} {r : Sized} (c : Computed s t d r) where
+  pub result-done : (z : Size) → r ≡ Fits z → Gives s t (take (z .len) d) z × (z .len ≤ length d) × (length (take (z .len) d) ≡ z .len)
   result-done z e = go c
     where
-      go : Computed s t d r → Result s t (take (z .len) d) z × (z .len ≤ length d) × (length (take (z .len) d) ≡ z .len)
+      go : Computed s t d r → Gives s t (take (z .len) d) z × (z .len ≤ length d) × (length (take (z .len) d) ≡ z .len)
       go (fits p i u b) =
-          let k : z ≡ sizeOf s t = (let q : Done z ≡ Done (sizeOf s t) = sym e ∙ p in cc) in
+          let k : z ≡ sizeOf s t = (let q : done z ≡ done (sizeOf s t) = sym (ap saidSized e) ∙ p in cc) in
           let n : z .len ≡ length (encode s t) = ap (λ (y : Size). y .len) k in
           (record { is = record { bytes = ap (λ (m : ℕ). take m d) n ∙ b; few = i .few; low = i .low }; size = k }, omega (arith, n, u), length-take-le (z .len) d (omega (arith, n, u)))
-      go (too-big p k) = other e p (λ q. cc)
+      go (too-big p k) = absurd (let q : done z ≡ refused LargeResult = sym (ap saidSized e) ∙ p in let w : _≡_ {A = ℕ} 0 1 = cc in omega arith)
 
-  pub result-over : r ≡ Over → keeps (sizeOf s t) ≡ false
-  result-over e = go c
+  -- It is refused by 5 alone.
+  pub result-large : {q : Refusal} → r ≡ Refused q → (q ≡ LargeResult) × (keeps (sizeOf s t) ≡ false)
+  result-large {q} e = go c
     where
-      go : Computed s t d r → keeps (sizeOf s t) ≡ false
-      go (fits p i u b) = other e p (λ q. cc)
-      go (too-big p k) = k
-
-  pub result-short : {A : Type 0} {z : Size} → r ≡ Short z → A
-  result-short e = go c
-    where
-      go : {A : Type 0} → Computed s t d r → A
-      go (fits p i u b) = other e p (λ q. cc)
-      go (too-big p k) = other e p (λ q. cc)
-
-  pub result-ill : {A : Type 0} → r ≡ Ill → A
-  result-ill e = go c
-    where
-      go : {A : Type 0} → Computed s t d r → A
-      go (fits p i u b) = other e p (λ q. cc)
-      go (too-big p k) = other e p (λ q. cc)
+      go : Computed s t d r → (q ≡ LargeResult) × (keeps (sizeOf s t) ≡ false)
+      go (fits p i u b) = absurd (let x : refused q ≡ done (sizeOf s t) = sym (ap saidSized e) ∙ p in let w : _≡_ {A = ℕ} 0 1 = cc in omega arith)
+      go (too-big p k) = ((let x : _≡_ {A = Result Size} (refused q) (refused LargeResult) = sym (ap saidSized e) ∙ p in cc), k)
 
 -- Questions 5 and 6 of one result ----------------------------------------------------------------------
 
@@ -106,13 +92,17 @@ pub record OneResult (c : Call) (k : Task) (s : Sort) (t : Tree s) (out l : List
   pub led : Led l
 
 module _ {c : Call} {k : Task} {s : Sort} {t : Tree s} {out l : List ℕ} (w : OneResult c k s t out l) where
-  pub one-large : keeps (sizeOf s t) ≡ false → Replies c l (saidOne (refusedMade LargeResult)) l (out ∷ [])
-  one-large b =
+  large : keeps (sizeOf s t) ≡ false → Replies c l (saidOne (refusedMade LargeResult)) l (out ∷ [])
+  large b =
       let x : (every fewNodes (k .results) && every lowBound (k .results)) ≡ false =
       ap (λ (rs : List Item). every fewNodes rs && every lowBound rs) (w .results) ∙ both-kept (leb (nodes s t) maxNodes) (leb (bound s t) maxBound) ∙ b in
       subst (Replies c l (saidOne (refusedMade LargeResult)) l) (w .outputs) (record { equal = too-large c k l (w .led) (w .reads) (w .keep) x })
 
-  module _ {x : List ℕ} {z : Size} (h : Result s t x z) where
+  pub one-large : {q : Refusal} → (q ≡ LargeResult) × (keeps (sizeOf s t) ≡ false) → Replies c l (saidOne (refusedMade q)) l (out ∷ [])
+  one-large (i, b) =
+      rw i (large b)
+
+  module _ {x : List ℕ} {z : Size} (h : Gives s t x z) where
     keep : ItemsKeep (k .results)
     keep = subst ItemsKeep (sym (w .results)) ((h .is .few, h .is .low), tt)
 
@@ -124,12 +114,12 @@ module _ {c : Call} {k : Task} {s : Sort} {t : Tree s} {out l : List ℕ} (w : O
         let e = lt-leb (length (encode s t)) (length out) (omega (arith, n, ap (λ (y : Size). y .len) (h .size))) in
         subst (Replies c l (saidOne (refusedMade ShortOutput)) l) (w .outputs) (record { equal = too-short c k l (w .led) (w .reads) (w .keep) keep (room false e) })
 
-    made-as : (a : Answer) (l₂ : List ℕ) → finished (out ∷ []) (item (formula s) t ∷ []) a l₂ ≡ record { answer = saidOne (madeBy a z); ledger = l₂; outputs = outBy a x out ∷ [] }
+    made-as : (a : Called) (l₂ : List ℕ) → finished (out ∷ []) (item (formula s) t ∷ []) a l₂ ≡ record { answer = saidOne (madeBy a z); ledger = l₂; outputs = outBy a x out ∷ [] }
     made-as (Step n) l₂ =
         ap₂ (λ (y : Size) (v : List ℕ). record { answer = answered n (measureOf y ∷ []); ledger = l₂; outputs = (v ++ drop (length v) out) ∷ [] }) (sym (h .size)) (sym (h .is .bytes))
     made-as (Refused e) l₂ = refl
 
-    pub one-made : {l₁ l₂ out′ : List ℕ} {r : Ran} {end : ℕ} {a : Answer} {m : Made} → length x ≤ length out → RunsOn l (k .program) r l₁ → end ≡ size (stepsOf l) → Ending l₁ end r a l₂
+    pub one-made : {l₁ l₂ out′ : List ℕ} {r : Ran} {end : ℕ} {a : Called} {m : Made} → length x ≤ length out → RunsOn l (k .program) r l₁ → end ≡ size (stepsOf l) → Ending l₁ end r a l₂
         → out′ ≡ outBy a x out → m ≡ madeBy a z → Replies c l (saidOne m) l₂ (out′ ∷ [])
     one-made {l₂ = l₂} {a = a} n run e i o p =
         let b = le-leb (length (encode s t)) (length out) (omega (arith, n, ap length (h .is .bytes))) in

@@ -14,8 +14,8 @@ use Rattle.formula.specs.declared.Size.{Size}
 use Rattle.formula.specs.Formula.{End, lo, hi, Interval}
 use Rattle.formula.specs.Operations
 use Rattle.formula.specs.Bytes.{encode, readAll, nodes, bound, maxNodes, maxBound}
-use Rattle.operations.specs.declared.Outcome.{Outcome}
-use Rattle.operations.specs.declared.Outcome.the-variants.{Done}
+use Rattle.operations.specs.declared.Sized.{Sized}
+use Rattle.operations.specs.declared.Sized.the-variants.{Fits}
 use Rattle.formula.specs.Answers.{sizeOf, treeOf}
 use Rattle.operations.specs.Results.{boundaried, AnsweredBoth}
 use Rattle.operations.proofs.ResultLaws.{boundary-sizes}
@@ -35,8 +35,8 @@ use Rattle.boundary_steps.proofs.BoundaryLaws.{side-is}
 use Rattle.transforms.proofs.ImageLaws.{zero-front, one-front}
 use Rattle.refusals.specs.declared.Refusal.{Refusal}
 use Rattle.refusals.specs.declared.Refusal.the-variants.{ShortOutput}
-use Rattle.replies.specs.declared.Answer.{Answer}
-use Rattle.replies.specs.declared.Answer.the-variants.{Step, Refused}
+use Rattle.replies.specs.declared.Called.{Called}
+use Rattle.replies.specs.declared.Called.the-variants.{Step, Refused}
 use Rattle.replies.specs.declared.Made.{Made}
 use Rattle.replies.specs.declared.Made.the-variants.{Refused as refusedMade}
 use Rattle.replies.specs.declared.Gate.the-variants.{Shut}
@@ -105,7 +105,7 @@ module _ (r out₀ out₁ : List ℕ) where
     short-second n = short (ap (λ (b : Bool). leb (z .len) (length out₀) && b) (lt-leb (z .len) (length out₁) n) ∙ and-false (leb (z .len) (length out₀)))
 
     module _ {zero one : List ℕ} (q : Sides r zero one) where
-      both-as : (a : Answer) (l₂ : List ℕ) → finished (out₀ ∷ out₁ ∷ []) ((sidesTask (treeOf Intervals r)) .results) a l₂ ≡ record { answer = saidBoth (madeBy a z); ledger = l₂; outputs = outBy a zero out₀ ∷ outBy a one out₁ ∷ [] }
+      both-as : (a : Called) (l₂ : List ℕ) → finished (out₀ ∷ out₁ ∷ []) ((sidesTask (treeOf Intervals r)) .results) a l₂ ≡ record { answer = saidBoth (madeBy a z); ledger = l₂; outputs = outBy a zero out₀ ∷ outBy a one out₁ ∷ [] }
       unfolding sidesTask
       both-as (Step n) l₂ =
           ap₂ (λ (x y : List ℕ). record {
@@ -120,7 +120,7 @@ module _ (r out₀ out₁ : List ℕ) where
           }) (sym e) (boundary-sizes hi lo (treeOf Intervals r) ∙ sym e)
       both-as (Refused x) l₂ = refl
 
-      pub both-made : {l₁ l₂ o₀ o₁ : List ℕ} {x : Ran} {end : ℕ} {a : Answer} {m : Made} → length zero ≤ length out₀ → length one ≤ length out₁ → RunsOn l (emitBoundary (treeOf Intervals r)) x l₁ → end ≡ size (stepsOf l) → Ending l₁ end x a l₂
+      pub both-made : {l₁ l₂ o₀ o₁ : List ℕ} {x : Ran} {end : ℕ} {a : Called} {m : Made} → length zero ≤ length out₀ → length one ≤ length out₁ → RunsOn l (emitBoundary (treeOf Intervals r)) x l₁ → end ≡ size (stepsOf l) → Ending l₁ end x a l₂
           → o₀ ≡ outBy a zero out₀ → o₁ ≡ outBy a one out₁ → m ≡ madeBy a z → Replies (Door.boundary r out₀ out₁) l (saidBoth m) l₂ (o₀ ∷ o₁ ∷ [])
       unfolding sidesTask room
       both-made {l₂ = l₂} {a = a} {m = m} u v run f n i j k =
@@ -135,7 +135,7 @@ module _ (r out₀ out₁ : List ℕ) where
           }
 
 -- What was computed fits where as many bytes do.
-module _ {r d e d′ e′ : List ℕ} {x : Outcome} (h : Known Intervals r) (s₀ : 1022 ≤ length d) (s₁ : 1022 ≤ length e) (a : AnsweredBoth (boundaried lo r) (boundaried hi r) d e x d′ e′) (z : Size) (g : x ≡ Done z) where
+module _ {r d e d′ e′ : List ℕ} {x : Sized} (h : Known Intervals r) (s₀ : 1022 ≤ length d) (s₁ : 1022 ≤ length e) (a : AnsweredBoth (boundaried lo r) (boundaried hi r) d e x d′ e′) (z : Size) (g : x ≡ Fits z) where
   pub first-fits : {m : ℕ} → z .len ≤ m → length (take (z .len) d′) ≤ m
   first-fits n = omega (arith, length-take-le (z .len) d′ (zero-front h s₀ s₁ a z g .inside), n)
 

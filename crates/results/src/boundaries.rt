@@ -1,7 +1,7 @@
 // boundary.
 use formula::Size;
 use formula::Sort;
-use operations::Outcome;
+use operations::Sized;
 use programs::Program;
 use refusals::Refusal;
 use replies::Made;
@@ -43,7 +43,7 @@ pub fn boundary(l: &mut [u8], r: &[u8], out0: &mut [u8], out1: &mut [u8]) -> Mad
     let mut zero = [0u8; 1024];
     let mut one = [0u8; 1024];
     match operations::boundary(r, &mut zero, &mut one) {
-        Outcome::Done(z) => {
+        Sized::Fits(z) => {
             let n = z.len;
             if out0.len() < n {
                 return Made::Refused(Refusal::ShortOutput);
@@ -53,8 +53,6 @@ pub fn boundary(l: &mut [u8], r: &[u8], out0: &mut [u8], out1: &mut [u8]) -> Mad
             }
             run(l, r, &zero[..n], &one[..n], z, out0, out1)
         }
-        Outcome::Over => Made::Refused(Refusal::LargeResult),
-        Outcome::Short(_) => Made::Refused(Refusal::LargeResult),
-        Outcome::Ill => Made::Refused(Refusal::NotAFormula),
+        Sized::Refused(e) => Made::Refused(e),
     }
 }

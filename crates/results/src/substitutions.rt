@@ -2,7 +2,7 @@
 use formula::Size;
 use formula::Sort;
 use operations::Op;
-use operations::Outcome;
+use operations::Sized;
 use programs::Program;
 use refusals::Refusal;
 use replies::Made;
@@ -15,7 +15,7 @@ ghost use Rattle.formula.specs.Answers.{treeOf};
 ghost use Rattle.steps.specs.Trees.{Known};
 ghost use Rattle.transforms.specs.Transforms.{opOf, KnownOp};
 ghost use Rattle.replies.specs.Replying.{saidOne, Replies};
-ghost use Rattle.results.specs.Calls.{transformCall, Result};
+ghost use Rattle.results.specs.Calls.{transformCall, Gives};
 
 // The call once its result is known to fit.
 fn run(
@@ -28,7 +28,7 @@ fn run(
     z: Size,
     out: &mut [u8],
 ) -> Made
-    requires { ⌜ Led (now l) × Known sort (now t) × KnownOp op (now r) × Result sort (transformOf sort (opOf op (now r)) (treeOf sort (now t))) (now result) z × (length (now result) ≤ length (now out)) ⌝ }
+    requires { ⌜ Led (now l) × Known sort (now t) × KnownOp op (now r) × Gives sort (transformOf sort (opOf op (now r)) (treeOf sort (now t))) (now result) z × (length (now result) ≤ length (now out)) ⌝ }
     ensures { λ x. ⌜ Replies (transformCall sort op (now (t .entry)) (now (r .entry)) (now (out .entry))) (now (l .entry)) (saidOne x) (now (l .exit)) (now (out .exit) ∷ []) ⌝ }
 {
     let end = ledger::used(l);
@@ -45,15 +45,13 @@ pub fn transform(l: &mut [u8], sort: Sort, op: Op, t: &[u8], r: &[u8], out: &mut
 {
     let mut result = [0u8; 1024];
     match operations::transform(sort, op, t, r, &mut result) {
-        Outcome::Done(z) => {
+        Sized::Fits(z) => {
             let n = z.len;
             if out.len() < n {
                 return Made::Refused(Refusal::ShortOutput);
             }
             run(l, sort, op, t, r, &result[..n], z, out)
         }
-        Outcome::Over => Made::Refused(Refusal::LargeResult),
-        Outcome::Short(_) => Made::Refused(Refusal::LargeResult),
-        Outcome::Ill => Made::Refused(Refusal::NotAFormula),
+        Sized::Refused(e) => Made::Refused(e),
     }
 }

@@ -24,7 +24,7 @@ use Rattle.kinds.specs.Kinds.{numberOf, predicateOf}
 use Rattle.kinds.proofs.KindLaws.{numbered}
 use Rattle.rules.specs.Standing.{part, AllStand, Decides, Ruled}
 use Rattle.rows.specs.Items.{Token, byte, number, slot, front, done, pad, Item, claim, inside}
-use Rattle.rules.specs.Matching.{bytesOf, Thing, a-face, an-interval, some-faces, Step, Claim, claimed, Fits, over, turn, claims, Matched}
+use Rattle.rules.specs.Matching.{bytesOf, Thing, a-face, an-interval, some-faces, Consumes, Claim, claimed, Fits, over, turn, claims, Matched}
 use Rattle.rows.specs.Flattening.{flatN, flatF, flatI, fronts, flatFaces, flatC, flatJ, padded, patternNumber, itemsOf, itemsIn, rowItems, rowStarts}
 use Rattle.rules.proofs.Moving.{bytes-face, bytes-interval, bytes-context, thing-faces}
 use Rattle.rows.proofs.RowTable.{table-length}
@@ -34,7 +34,7 @@ use Rattle.rules.proofs.RowCuts.{Cut, row-cut}
 
 data Run (E : Env) : List Token → ℕ → List ℕ → ℕ → List ℕ → Type 0 where
   stay : {n n′ : ℕ} {s s′ : List ℕ} → n′ ≡ n → s ≡ s′ → Run E [] n s n′ s′
-  step : {t : Token} {ts : List Token} {n k n′ : ℕ} {s r s′ : List ℕ} → Step E t n s k r → Run E ts k r n′ s′ → Run E (t ∷ ts) n s n′ s′
+  step : {t : Token} {ts : List Token} {n k n′ : ℕ} {s r s′ : List ℕ} → Consumes E t n s k r → Run E ts k r n′ s′ → Run E (t ∷ ts) n s n′ s′
 
 run-append : {E : Env} {ts us : List Token} {n k n′ : ℕ} {s r s′ : List ℕ} → Run E ts n s k r → Run E us k r n′ s′ → Run E (ts ++ us) n s n′ s′
 run-append (stay p q) b = rw (← p, q) b
@@ -58,7 +58,7 @@ module _ (E : Env) where
   spells : {ts : List Token} {x : List ℕ} → Plain ts x → Spells ts x (Unit {0})
   spells p = record { forth = λ _ n s. (n, p .forth n s); back = λ n n′ s s′ a. (p .back n n′ s s′ a .0, tt) }
 
-  one : (t : Token) (x : List ℕ) → ((n : ℕ) (s : List ℕ) → Step E t n (x ++ s) n s) → ((n n′ : ℕ) (s s′ : List ℕ) → Step E t n s n′ s′ → (s ≡ x ++ s′) × (n′ ≡ n)) → Plain (t ∷ []) x
+  one : (t : Token) (x : List ℕ) → ((n : ℕ) (s : List ℕ) → Consumes E t n (x ++ s) n s) → ((n n′ : ℕ) (s s′ : List ℕ) → Consumes E t n s n′ s′ → (s ≡ x ++ s′) × (n′ ≡ n)) → Plain (t ∷ []) x
   one t x f b = record { forth = λ n s. step (f n s) (stay refl refl); back = back }
     where
       back : (n n′ : ℕ) (s s′ : List ℕ) → Run E (t ∷ []) n s n′ s′ → (s ≡ x ++ s′) × (n′ ≡ n)

@@ -14,7 +14,8 @@ use Rattle.formula.specs.declared.Measured.the-variants.{Formula as found, Ill}
 use Rattle.formula.specs.declared.Size.{Size}
 use Rattle.formula.specs.Formula.{Face}
 use Rattle.formula.specs.Bytes.{Tree, dimWidth, dimBytes, dimAt, encode, encodeFace, encodeInterval, Got, nothing, got, read}
-use Rattle.formula.specs.Answers.{frontSize, measuredAt}
+use Rattle.formula.specs.Answers.{saidMeasured, measurementAt}
+use Rattle.formula.proofs.Measuring.{frontSize, measuredAt, measuredAt-as}
 use Rattle.formula.proofs.Reading.{got-value, got-rest, read-encode, encode-read, encode-prefix}
 use Rattle.calculus.specs.Record.{littleEndian, facesBytes}
 use Rattle.calculus.specs.Parse.{readFaces}
@@ -22,7 +23,7 @@ use Rattle.calculus.proofs.Fields.{read-faces}
 use Rattle.calculus.proofs.Rows.{Env, put, bindN}
 use Rattle.rules.specs.Standing.{part}
 use Rattle.rows.specs.Items.{Token, byte, number, slot, front, done, pad, token}
-use Rattle.rules.specs.Matching.{bytesOf, Thing, a-face, an-interval, some-faces, Step, Held, num, bytes, heldIn, Binds, Ends, Formula, Faces, Moves}
+use Rattle.rules.specs.Matching.{bytesOf, Thing, a-face, an-interval, some-faces, Consumes, Held, num, bytes, heldIn, Binds, Ends, Formula, Faces, Moves}
 use Rattle.rules.specs.declared.reach.Ending.{Ending}
 use Rattle.rules.specs.declared.reach.Ending.the-variants.{At, Nowhere}
 use Rattle.rules.specs.declared.tokens.Next.{Next}
@@ -34,8 +35,8 @@ use Rattle.rules.proofs.Binding.{put-same, put-other, put-as, agrees-as
 
 -- The token says what the slot holds and which bytes follow; and the slot can be made to hold it.
 pub record Reading (t : Token) (left : ℕ) (s : List ℕ) (u : ℕ) (x : Held) (s′ : List ℕ) : Type 0 where
-  pub reads : (E : Env) (n : ℕ) (r : List ℕ) → Step E t left s n r → (heldIn E u ≡ x) × (n ≡ left) × (r ≡ s′)
-  pub writes : (E : Env) → heldIn E u ≡ x → Step E t left s left s′
+  pub reads : (E : Env) (n : ℕ) (r : List ℕ) → Consumes E t left s n r → (heldIn E u ≡ x) × (n ≡ left) × (r ≡ s′)
+  pub writes : (E : Env) → heldIn E u ≡ x → Consumes E t left s left s′
   pub stands : (E : Env) → (F : Env) × ((w : ℕ) → w < 32 → heldIn F w ≡ put u x (heldIn E) w)
 
 abbrev pub outcome : Bool → ℕ → ℕ → Next
@@ -254,9 +255,9 @@ module _ (u n : ℕ) where
     end-faces h = ends-as {P = Faces n} {Q = Thing u n} l at end r (faces-thing h) (thing-faces h)
 
 module _ (s : Sort) (l : List ℕ) (at end : ℕ) (h : at ≤ end) (k : end ≤ length l) where
-  pub formula-at : (r : Measured) (z : Size) → r ≡ measuredAt s (part l at end) 0 → r ≡ found z → Ends (Formula s) l at end (At (at + z .len))
+  pub formula-at : (r : Measured) (z : Size) → saidMeasured r ≡ measurementAt s (part l at end) 0 → r ≡ found z → Ends (Formula s) l at end (At (at + z .len))
   unfolding measuredAt
-  formula-at r z e f = go (read s (part l at end)) refl (sym e ∙ f)
+  formula-at r z e f = go (read s (part l at end)) refl (sym (measuredAt-as s (part l at end) 0 e) ∙ f)
     where
       go : (g : Got (Tree s)) → read s (part l at end) ≡ g → frontSize s g ≡ found z → Ends (Formula s) l at end (At (at + z .len))
       go nothing i j = absurd (let o : _≡_ {A = ℕ} 0 1 = cc in omega arith)
@@ -269,9 +270,9 @@ module _ (s : Sort) (l : List ℕ) (at end : ℕ) (h : at ≤ end) (k : end ≤ 
           lengthOf (found z) = z .len
           lengthOf Ill = 0
 
-  pub formula-nowhere : (r : Measured) → r ≡ measuredAt s (part l at end) 0 → r ≡ Ill → Ends (Formula s) l at end Nowhere
+  pub formula-nowhere : (r : Measured) → saidMeasured r ≡ measurementAt s (part l at end) 0 → r ≡ Ill → Ends (Formula s) l at end Nowhere
   unfolding measuredAt
-  formula-nowhere r e f = λ x m t i. go (t .0) m (i ∙ ap (λ (z : List ℕ). z ++ m) (t .1)) (sym e ∙ f)
+  formula-nowhere r e f = λ x m t i. go (t .0) m (i ∙ ap (λ (z : List ℕ). z ++ m) (t .1)) (sym (measuredAt-as s (part l at end) 0 e) ∙ f)
     where
       go : (t : Tree s) (m : List ℕ) → part l at end ≡ encode s t ++ m → frontSize s (read s (part l at end)) ≡ Ill → ⊥
       go t m i j =
@@ -333,7 +334,7 @@ module _ (l : List ℕ) (n at end : ℕ) where
 
 -- A token that binds nothing, and leads to one place only.
 plain-moves : (t : Token) (at end left : ℕ) (l : List ℕ) (a h : ℕ) → a ≤ end
-    → ((E : Env) (n : ℕ) (s : List ℕ) → Step E t left (part l at end) n s → (n ≡ h) × (s ≡ part l a end)) → ((E : Env) → Step E t left (part l at end) h (part l a end))
+    → ((E : Env) (n : ℕ) (s : List ℕ) → Consumes E t left (part l at end) n s → (n ≡ h) × (s ≡ part l a end)) → ((E : Env) → Consumes E t left (part l at end) h (part l a end))
     → (m : List ℕ) → Moves t at end left l m (Move a h) m
 plain-moves t at end left l a h w f b m = record { within = w; forth = λ E n s g st. (g, f E n s st .0, f E n s st .1); back = λ E g. (g, b E); some = λ p. p }
 

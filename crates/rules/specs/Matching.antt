@@ -35,13 +35,13 @@ pub data Thing : ℕ → ℕ → List ℕ → Type 0 where
   some-faces : {u n : ℕ} → u % 3 ≡ 2 → (G : List Face) → length G ≡ n → Thing u n (facesBytes G)
 
 -- The token leads from n faces left and the bytes s to n′ faces left and the bytes s′.
-abbrev pub Step : Env → Token → ℕ → List ℕ → ℕ → List ℕ → Type 0
-Step E (byte b) n s n′ s′ = (s ≡ b ∷ s′) × (n′ ≡ n)
-Step E (number k v) n s n′ s′ = (s ≡ dimBytes (k + E .num v) ++ s′) × (n′ ≡ n)
-Step E (slot u) n s n′ s′ = (s ≡ bytesOf E u ++ s′) × (n′ ≡ n) × Thing u n (bytesOf E u)
-Step E (front k) n s n′ s′ = (s ≡ littleEndian 2 (k + n′) ++ s′) × (k + n′ < 65536)
-Step E done n s n′ s′ = (s ≡ s′) × (n′ ≡ n) × (n ≡ 0)
-Step E pad n s n′ s′ = (s ≡ s′) × (n′ ≡ n)
+abbrev pub Consumes : Env → Token → ℕ → List ℕ → ℕ → List ℕ → Type 0
+Consumes E (byte b) n s n′ s′ = (s ≡ b ∷ s′) × (n′ ≡ n)
+Consumes E (number k v) n s n′ s′ = (s ≡ dimBytes (k + E .num v) ++ s′) × (n′ ≡ n)
+Consumes E (slot u) n s n′ s′ = (s ≡ bytesOf E u ++ s′) × (n′ ≡ n) × Thing u n (bytesOf E u)
+Consumes E (front k) n s n′ s′ = (s ≡ littleEndian 2 (k + n′) ++ s′) × (k + n′ < 65536)
+Consumes E done n s n′ s′ = (s ≡ s′) × (n′ ≡ n) × (n ≡ 0)
+Consumes E pad n s n′ s′ = (s ≡ s′) × (n′ ≡ n)
 
 -- A predicate's number and the bytes of operands.
 pub data Claim : Type 0 where
@@ -50,7 +50,7 @@ pub data Claim : Type 0 where
 -- The same for an item, with the claims that are still to come.
 abbrev pub Turned : Env → Item → ℕ → List ℕ → List Claim → ℕ → List ℕ → List Claim → Type 0
 Turned E (claim p) n s cs n′ s′ cs′ = (s ≡ []) × (n′ ≡ 0) × (cs ≡ claimed p s′ ∷ cs′)
-Turned E (inside t) n s cs n′ s′ cs′ = Step E t n s n′ s′ × (cs′ ≡ cs)
+Turned E (inside t) n s cs n′ s′ cs′ = Consumes E t n s n′ s′ × (cs′ ≡ cs)
 
 -- The items spell the bytes s and the claims exactly.
 pub data Fits (E : Env) : List Item → ℕ → List ℕ → List Claim → Type 0 where
@@ -116,11 +116,11 @@ Faces n x = (G : List Face) × (x ≡ facesBytes G) × (length G ≡ n)
 
 -- The code's move over a token is the only one there is.
 abbrev pub Moves : Token → ℕ → ℕ → ℕ → List ℕ → List ℕ → Next → List ℕ → Type 0
-Moves t at end left l m Stop m′ = (E : Env) (n : ℕ) (s : List ℕ) → Agrees l m (heldIn E) → Step E t left (part l at end) n s → ⊥
+Moves t at end left l m Stop m′ = (E : Env) (n : ℕ) (s : List ℕ) → Agrees l m (heldIn E) → Consumes E t left (part l at end) n s → ⊥
 Moves t at end left l m (Move a h) m′ = record {
   within : a ≤ end;
-  forth : (E : Env) (n : ℕ) (s : List ℕ) → Agrees l m (heldIn E) → Step E t left (part l at end) n s → Agrees l m′ (heldIn E) × (n ≡ h) × (s ≡ part l a end);
-  back : (E : Env) → Agrees l m′ (heldIn E) → Agrees l m (heldIn E) × Step E t left (part l at end) h (part l a end);
+  forth : (E : Env) (n : ℕ) (s : List ℕ) → Agrees l m (heldIn E) → Consumes E t left (part l at end) n s → Agrees l m′ (heldIn E) × (n ≡ h) × (s ≡ part l a end);
+  back : (E : Env) → Agrees l m′ (heldIn E) → Agrees l m (heldIn E) × Consumes E t left (part l at end) h (part l a end);
   some : Some l m → Some l m′;
 }
 

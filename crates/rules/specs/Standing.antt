@@ -21,7 +21,7 @@ pub record Lies (l from to : List ℕ) (n : ℕ) : Type 0 where
   pub within : (i : ℕ) → i < n → getD to i 0 ≤ length l
 
 -- The judgement stands in the range a to b with this predicate number, and a ledger may hold it.
-pub record Stands (l : List ℕ) (p a b : ℕ) (j : Judgement) : Type 0 where
+pub record JudgementIn (l : List ℕ) (p a b : ℕ) (j : Judgement) : Type 0 where
   pub named : p ≡ numberOf (predicate j)
   pub bytes : part l a b ≡ operandBytes j
   pub limits : allAllowed (fields (predicate j)) (operands j) ≡ true
@@ -29,7 +29,7 @@ pub record Stands (l : List ℕ) (p a b : ℕ) (j : Judgement) : Type 0 where
 -- The judgements stand in the ranges, in order, from number i on.
 abbrev pub AllStand : List ℕ → List ℕ → List ℕ → List ℕ → ℕ → List Judgement → Type 0
 AllStand l preds from to i [] = Unit {0}
-AllStand l preds from to i (j ∷ js) = Stands l (getD preds i 0) (getD from i 0) (getD to i 0) j × AllStand l preds from to (suc i) js
+AllStand l preds from to i (j ∷ js) = JudgementIn l (getD preds i 0) (getD from i 0) (getD to i 0) j × AllStand l preds from to (suc i) js
 
 -- The answer says whether A holds.
 abbrev pub Decides : Bool → Type 0 → Type 0

@@ -20,8 +20,8 @@ use Rattle.steps.specs.Trees.{Known}
 use Rattle.steps.proofs.TreeLaws.{read-known}
 use Rattle.bounded_steps.specs.Programs.{bounded, emitBounded}
 use Rattle.refusals.specs.declared.Refusal.{Refusal}
-use Rattle.replies.specs.declared.Answer.{Answer}
-use Rattle.replies.specs.declared.Answer.the-variants.{Refused}
+use Rattle.replies.specs.declared.Called.{Called}
+use Rattle.replies.specs.declared.Called.the-variants.{Refused}
 use Rattle.replies.specs.declared.Gate.the-variants.{Shut}
 use Rattle.replies.specs.Replying.{said, Replies}
 use Rattle.runs.specs.Calls.{boundedCall}
@@ -60,7 +60,7 @@ bounded-one s d f = record {
 pub bounded-refused : (s : Sort) (d : ℕ) (f l : List ℕ) (e : Refusal) → ledgerGate (readLedger l) (operandGate s (readAll s f) (leb d 255)) ≡ Shut e → Replies (boundedCall s d f) l (said (Refused e)) l []
 bounded-refused s d f l e g = subst (Replies (boundedCall s d f) l (said (Refused e)) l) (no-outputs s d f) (refuses (boundedCall s d f) l e (one-shut (bounded-one s d f) l g))
 
-pub bounded-replies : (s : Sort) (d : ℕ) {f l l₁ l₂ : List ℕ} {r : Ran} {end : ℕ} {a : Answer} → Led l → Known s f → d ≤ 255 → RunsOn l (emitBounded s d (treeOf s f)) r l₁ → end ≡ size (stepsOf l) → Ending l₁ end r a l₂
+pub bounded-replies : (s : Sort) (d : ℕ) {f l l₁ l₂ : List ℕ} {r : Ran} {end : ℕ} {a : Called} → Led l → Known s f → d ≤ 255 → RunsOn l (emitBounded s d (treeOf s f)) r l₁ → end ≡ size (stepsOf l) → Ending l₁ end r a l₂
     → Replies (boundedCall s d f) l (said a) l₂ []
 unfolding boundedTask
 bounded-replies s d {f} {l} {l₂ = l₂} {a = a} h k b run e n =

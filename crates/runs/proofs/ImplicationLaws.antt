@@ -22,8 +22,8 @@ use Rattle.formula.specs.Answers.{treeOf}
 use Rattle.steps.specs.Trees.{Known}
 use Rattle.steps.proofs.TreeLaws.{read-known}
 use Rattle.refusals.specs.declared.Refusal.{Refusal}
-use Rattle.replies.specs.declared.Answer.{Answer}
-use Rattle.replies.specs.declared.Answer.the-variants.{Refused}
+use Rattle.replies.specs.declared.Called.{Called}
+use Rattle.replies.specs.declared.Called.the-variants.{Refused}
 use Rattle.replies.specs.declared.Gate.the-variants.{Shut}
 use Rattle.replies.specs.Replying.{said, Replies}
 use Rattle.replies.specs.Asking.{ledgerGate, operandsGate}
@@ -57,7 +57,7 @@ module _ (d : ℕ) (a b : List ℕ) where
   pub entails-refused : (l : List ℕ) (e : Refusal) → ledgerGate (readLedger l) (operandsGate Faces (readAll Faces a) Faces (readAll Faces b) (leb d 255)) ≡ Shut e → Replies (Door.entails d a b) l (said (Refused e)) l []
   entails-refused l e g = record { equal = two-shut entails-two l g }
 
-  pub entails-replies : {l l₁ l₂ : List ℕ} {r : Ran} {end : ℕ} {x : Answer} → Led l → d ≤ 255 → Known Faces a → Known Faces b → RunsOn l (emitEntails d (treeOf Faces a) (treeOf Faces b)) r l₁ → end ≡ size (stepsOf l)
+  pub entails-replies : {l l₁ l₂ : List ℕ} {r : Ran} {end : ℕ} {x : Called} → Led l → d ≤ 255 → Known Faces a → Known Faces b → RunsOn l (emitEntails d (treeOf Faces a) (treeOf Faces b)) r l₁ → end ≡ size (stepsOf l)
       → Ending l₁ end r x l₂ → Replies (Door.entails d a b) l (said x) l₂ []
   unfolding entails-two
   entails-replies {l} {l₂ = l₂} {x = x} h n p q run e k =
@@ -93,7 +93,7 @@ module _ (d : ℕ) (phi r : List ℕ) (one : Bool) where
       → Replies (Door.endpoint d phi r one) l (said (Refused e)) l []
   endpoint-refused l e g = record { equal = two-shut endpoint-two l g }
 
-  pub endpoint-replies : {l l₁ l₂ : List ℕ} {x : Ran} {end : ℕ} {a : Answer} → Led l → d ≤ 255 → Known Faces phi → Known Intervals r → RunsOn l (emitEndpoint d (treeOf Faces phi) (treeOf Intervals r) (endOf one)) x l₁
+  pub endpoint-replies : {l l₁ l₂ : List ℕ} {x : Ran} {end : ℕ} {a : Called} → Led l → d ≤ 255 → Known Faces phi → Known Intervals r → RunsOn l (emitEndpoint d (treeOf Faces phi) (treeOf Intervals r) (endOf one)) x l₁
       → end ≡ size (stepsOf l) → Ending l₁ end x a l₂ → Replies (Door.endpoint d phi r one) l (said a) l₂ []
   unfolding endpoint-two
   endpoint-replies {l} {l₂ = l₂} {a = a} h n p q run e k =

@@ -1,7 +1,7 @@
 // face and interval, once over the sort.
 use formula::Sort;
 use programs::Program;
-use replies::Answer;
+use replies::Called;
 ghost use mathlib.Core.List.{[]};
 ghost use Prim.Native.Nat.{_≤_};
 ghost use Rattle.ledger.specs.Ledger.{Led};
@@ -10,7 +10,7 @@ ghost use Rattle.replies.specs.Replying.{said, Replies};
 ghost use Rattle.runs.specs.Calls.{boundedCall};
 
 // The call once questions 1 to 4 are answered.
-pub fn bounded(l: &mut [u8], sort: Sort, d: usize, f: &[u8]) -> Answer
+pub fn bounded(l: &mut [u8], sort: Sort, d: usize, f: &[u8]) -> Called
     requires { ⌜ Led (now l) × Known sort (now f) × (d ≤ 255) ⌝ }
     ensures { λ r. ⌜ Replies (boundedCall sort d (now (f .entry))) (now (l .entry)) (said r) (now (l .exit)) [] ⌝ }
 {

@@ -1,9 +1,8 @@
 // entails and endpoint.
 use formula::Sort;
-use operations::Outcome;
+use operations::Sized;
 use programs::Program;
-use refusals::Refusal;
-use replies::Answer;
+use replies::Called;
 ghost use mathlib.Core.List.{[]};
 ghost use Prim.Native.Nat.{_≤_};
 ghost use Rattle.calculus.specs.Door.{endpoint as endpointCall, entails as entailsCall};
@@ -13,7 +12,7 @@ ghost use Rattle.boundary_steps.specs.Programs.{Sides};
 ghost use Rattle.replies.specs.Replying.{said, Replies};
 
 // The call once questions 1 to 4 are answered.
-pub fn entails(l: &mut [u8], d: usize, a: &[u8], b: &[u8]) -> Answer
+pub fn entails(l: &mut [u8], d: usize, a: &[u8], b: &[u8]) -> Called
     requires { ⌜ Led (now l) × (d ≤ 255) × Known Sort.Faces (now a) × Known Sort.Faces (now b) ⌝ }
     ensures { λ r. ⌜ Replies (entailsCall d (now (a .entry)) (now (b .entry))) (now (l .entry)) (said r) (now (l .exit)) [] ⌝ }
 {
@@ -31,7 +30,7 @@ fn run_endpoint(
     zero: &[u8],
     one: &[u8],
     hi: bool,
-) -> Answer
+) -> Called
     requires { ⌜ Led (now l) × (d ≤ 255) × Known Sort.Faces (now phi) × Known Sort.Intervals (now r) × Sides (now r) (now zero) (now one) ⌝ }
     ensures { λ x. ⌜ Replies (endpointCall d (now (phi .entry)) (now (r .entry)) hi) (now (l .entry)) (said x) (now (l .exit)) [] ⌝ }
 {
@@ -41,19 +40,17 @@ fn run_endpoint(
 }
 
 // The call once questions 1 to 4 are answered. The faces of an interval within the limits are within them.
-pub fn endpoint(l: &mut [u8], d: usize, phi: &[u8], r: &[u8], hi: bool) -> Answer
+pub fn endpoint(l: &mut [u8], d: usize, phi: &[u8], r: &[u8], hi: bool) -> Called
     requires { ⌜ Led (now l) × (d ≤ 255) × Known Sort.Faces (now phi) × Known Sort.Intervals (now r) ⌝ }
     ensures { λ x. ⌜ Replies (endpointCall d (now (phi .entry)) (now (r .entry)) hi) (now (l .entry)) (said x) (now (l .exit)) [] ⌝ }
 {
     let mut zero = [0u8; 1024];
     let mut one = [0u8; 1024];
     match operations::boundary(r, &mut zero, &mut one) {
-        Outcome::Done(z) => {
+        Sized::Fits(z) => {
             let n = z.len;
             run_endpoint(l, d, phi, r, &zero[..n], &one[..n], hi)
         }
-        Outcome::Over => Answer::Refused(Refusal::LargeResult),
-        Outcome::Short(_) => Answer::Refused(Refusal::LargeResult),
-        Outcome::Ill => Answer::Refused(Refusal::NotAFormula),
+        Sized::Refused(e) => Called::Refused(e),
     }
 }

@@ -6,7 +6,7 @@ use mathlib.Core.Bool.{true, false}
 use mathlib.Core.List.{List, [], _∷_}
 use lib.ListN.{length, getD, drop}
 use Rattle.formula.specs.declared.Sort.{Sort}
-use Rattle.formula.specs.declared.Step.the-variants.{Leaf, Lit, One, Two}
+use Rattle.formula.specs.declared.Advance.the-variants.{Leaf, Lit, One, Two}
 use Rattle.formula.specs.declared.Place.{Place}
 use Rattle.formula.specs.declared.Sort.the-variants.{Faces}
 use Rattle.formula.specs.Formula.{End, lo, hi, Face, at}

@@ -7,8 +7,8 @@ use lib.ListN.{length, getD, take, drop, length-append, length-drop, List·getD-
 use lib.Seq.{length-take-le, take-at, drop-drop, drop-append-seam, getD-drop}
 use borrow.Author.Tests.{le-leb}
 use Rattle.formula.specs.declared.Sort.{Sort}
-use Rattle.formula.specs.declared.Step.{Step}
-use Rattle.formula.specs.declared.Step.the-variants.{Leaf, Lit, One, Two, Stuck}
+use Rattle.formula.specs.declared.Advance.{Advance}
+use Rattle.formula.specs.declared.Advance.the-variants.{Leaf, Lit, One, Two, Stuck}
 use Rattle.formula.specs.declared.Place.{Place}
 use Rattle.formula.specs.Bytes.{Tree, dimWidth, dimBytes, dimAt, encode, Node, leaf, lit, one, two, nodeOf, Got, nothing, got, read, nodes, bound, maxNodes, maxBound}
 use Rattle.formula.specs.Answers.{literalStep, stepBy, stepOf, bytesOf, partAt}
@@ -144,7 +144,7 @@ below-at {s} {t} {x} {l} {p} o h =
     record { below = i; end = ap (λ (u : ℕ). record { at = u; pending = p .pending - 1 }) a }
 
 -- What a step from the place of a formula shows: its node, and where its parts stand.
-pub record EndAt (s : Sort) (t : Tree s) (l : List ℕ) (p q : Place) (y : Step) : Type 0 where
+pub record EndAt (s : Sort) (t : Tree s) (l : List ℕ) (p q : Place) (y : Advance) : Type 0 where
   pub view : View s (partAt s l (p .at)) t y
   pub end : q ≡ behindAt s l p
 
@@ -164,7 +164,7 @@ pub record TwoAt (s : Sort) (t : Tree s) (l : List ℕ) (p q : Place) : Type 0 w
   pub right-part : partAt s l (behindAt s l q .at) ≡ drop (1 + length (partAt s (partAt s l (p .at)) 1)) (partAt s l (p .at))
   pub end : behindAt s l (behindAt s l q) ≡ behindAt s l p
 
-abbrev pub ViewAt : (s : Sort) → Tree s → List ℕ → Place → Step → Type 0
+abbrev pub ViewAt : (s : Sort) → Tree s → List ℕ → Place → Advance → Type 0
 ViewAt s t l p (Leaf q) = EndAt s t l p q (Leaf q)
 ViewAt s t l p (Lit q n) = EndAt s t l p q (Lit q n)
 ViewAt s t l p (One q) = OneAt s t l p q
@@ -175,7 +175,7 @@ module _ (s : Sort) (l : List ℕ) (p : Place) where
   end-place : (n : ℕ) → n ≡ p .at + length (partAt s l (p .at)) → _≡_ {A = Place} (record { at = n; pending = p .pending - 1 }) (behindAt s l p)
   end-place n e = ap (λ (u : ℕ). record { at = u; pending = p .pending - 1 }) e
 
-  view-by : (t : Tree s) → StandsAt s t l p → (y : Step) → View s (partAt s l (p .at)) t y → ViewAt s t l p (stepOf s l (p .at) (p .pending))
+  view-by : (t : Tree s) → StandsAt s t l p → (y : Advance) → View s (partAt s l (p .at)) t y → ViewAt s t l p (stepOf s l (p .at) (p .pending))
   view-by t h y (a-leaf b t₁ e i) =
       subst (ViewAt s t l p) (sym (step-at h b (leaf t₁) e (ap (λ (z : List ℕ). getD z 0 0) i)))
       (record { view = a-leaf b t₁ e i; end = end-place (p .at + 1) (omega (arith, ap length i)) })
@@ -196,5 +196,5 @@ module _ (s : Sort) (l : List ℕ) (p : Place) where
       (record { view = a-two b v x z e g i j o; place = refl; left = known-at (k .left); left-part = k .left .is .bytes ∙ sym (i .bytes); right = known-at (k .right); right-part = k .right .is .bytes ∙ sym (j .bytes); end = k .end })
 
   -- By a step that was taken.
-  pub viewed-at : KnownAt s l p → (x y : Step) → x ≡ stepOf s l (p .at) (p .pending) → x ≡ y → ViewAt s (treeAt s l p) l p y
+  pub viewed-at : KnownAt s l p → (x y : Advance) → x ≡ stepOf s l (p .at) (p .pending) → x ≡ y → ViewAt s (treeAt s l p) l p y
   viewed-at h x y e f = subst (ViewAt s (treeAt s l p) l p) (sym e ∙ f) (view-by (treeAt s l p) h _ (view s (treeAt s l p) (partAt s l (p .at)) (h .is)))

@@ -16,7 +16,7 @@ use Rattle.calculus.proofs.Finding.{find-lowest}
 use Rattle.calculus.proofs.Growing.{Limited, limited-allowed}
 use Rattle.calculus.proofs.Repeating.{Longer, done-longer, stopped-longer, is-full, run-longer}
 use Rattle.ledger.specs.Ledger.{stepsOf}
-use Rattle.emission.specs.Emitting.{Stands, Emission, Keeps, Ran as EmitRan}
+use Rattle.emission.specs.Emitting.{StandsFor, Emission, Keeps, Ran as EmitRan}
 use Rattle.emission.specs.declared.Emitted.{Emitted}
 use Rattle.emission.specs.declared.Emitted.the-variants.{Step as Number, Full as NoRoom}
 use Rattle.ledger.proofs.LedgerLaws.{holds-steps}
@@ -194,7 +194,7 @@ module _ (l l′ : Book) (start : Kept l) where
     emits-number x i e g =
         let h = subst (λ (y : Emitted). Emission (l .bytes) kind references given y (l′ .bytes)) e g in
         record {
-          rule = λ s f t. let u : Stands s kind (take (length (s .references)) references) given = record { kinds = t .kinds; refers = t .refers; judges = t .judges ∙ sym same } in
+          rule = λ s f t. let u : StandsFor s kind (take (length (s .references)) references) given = record { kinds = t .kinds; refers = t .refers; judges = t .judges ∙ sym same } in
               record { ends = emitted-number (run (within (length (l .bytes))) (emit (s .kind) (s .references) (s .judgement)) (stepsOf (l .bytes))) i (keeps s f u) (h s f u) };
         }
 
@@ -202,7 +202,7 @@ module _ (l l′ : Book) (start : Kept l) where
     emits-full x e g =
         let h = subst (λ (y : Emitted). Emission (l .bytes) kind references given y (l′ .bytes)) e g in
         record {
-          rule = λ s f t. let u : Stands s kind (take (length (s .references)) references) given = record { kinds = t .kinds; refers = t .refers; judges = t .judges ∙ sym same } in
+          rule = λ s f t. let u : StandsFor s kind (take (length (s .references)) references) given = record { kinds = t .kinds; refers = t .refers; judges = t .judges ∙ sym same } in
               record { ends = emitted-full (run (within (length (l .bytes))) (emit (s .kind) (s .references) (s .judgement)) (stepsOf (l .bytes))) (keeps s f u) (h s f u) };
         }
 

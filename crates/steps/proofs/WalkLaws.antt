@@ -6,7 +6,7 @@ use mathlib.Core.Bool.{Bool, true, false}
 use mathlib.Core.List.{List, [], _∷_}
 use lib.ListN.{length, getD, drop}
 use Rattle.formula.specs.declared.Sort.{Sort}
-use Rattle.formula.specs.declared.Step.the-variants.{Leaf, One, Two}
+use Rattle.formula.specs.declared.Advance.the-variants.{Leaf, One, Two}
 use Rattle.formula.specs.declared.Place.{Place}
 use Rattle.formula.specs.Bytes.{Tree}
 use Rattle.formula.specs.Answers.{partAt, treeOf}

@@ -9,7 +9,7 @@ use Rattle.calculus.specs.Record.{FormedStep, Holds}
 use Rattle.calculus.specs.Emit.{Failure, not-below, not-implied, Program, emit, Outcome, done, stopped, full, within, run}
 use Rattle.calculus.specs.Calls.{Order, less, atMost}
 use Rattle.ledger.specs.Ledger.{stepsOf}
-use Rattle.emission.specs.Emitting.{Stands}
+use Rattle.emission.specs.Emitting.{StandsFor}
 use Rattle.index.specs.Index.{Indexed}
 use Rattle.steps.specs.declared.Ran.{Ran}
 use Rattle.steps.specs.declared.Ran.the-variants.{Done, NotBelow, NotImplied, Full}
@@ -74,7 +74,7 @@ pub record RunsOn (l : List ℕ) (p : Program) (r : Ran) (l′ : List ℕ) : Typ
 
 -- The emit rule for every step that the bytes stand for.
 pub record Emits (l : Book) (kind : ℕ) (references operands : List ℕ) (r : Ran) (l′ : Book) : Type 0 where
-  pub rule : (s : Step) → FormedStep (length (stepsOf (l .bytes))) s → Stands s kind (take (length (s .references)) references) operands
+  pub rule : (s : Step) → FormedStep (length (stepsOf (l .bytes))) s → StandsFor s kind (take (length (s .references)) references) operands
       → Runs l (emit (s .kind) (s .references) (s .judgement)) r l′
 
 -- The order of a comparison.

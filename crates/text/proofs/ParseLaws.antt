@@ -14,13 +14,12 @@ use Rattle.formula.specs.Answers.{kindBy, kindOf}
 use Rattle.formula.proofs.Nodes.{Made, made-as}
 use Rattle.operations.proofs.ResultLaws.{len-short}
 use Rattle.records.proofs.NumberLaws.{sets-append}
-use Rattle.calculus.specs.Refusal.{too-many-nodes, not-accepted}
-use Rattle.refusals.specs.Refusals.{refusalOf}
 use Rattle.refusals.specs.declared.Refusal.{Refusal}
 use Rattle.refusals.specs.declared.Refusal.the-variants.{TooManyNodes, NotAccepted}
+use Rattle.refusals.specs.Refusals.{Result, refused, done, map}
 use Rattle.text.specs.Tokens.{Token, tokens}
 use Rattle.text.specs.Words.{kindNamed, nodeNamed}
-use Rattle.text.specs.Reading.{Item, part, partList, number, close, Values, Outcome, refused, done, map, Reader, counted, bareNode, listNode, maxDim, run}
+use Rattle.text.specs.Reading.{Item, part, partList, number, close, Values, Reader, counted, bareNode, listNode, maxDim, run}
 use Rattle.text.specs.Scanning.{between, Lexes, Closes, numberAt, Numerals}
 use Rattle.text.specs.Parsing.{headKind, Shape, single, double, dimension, Thing, bytesIn, nodesIn, boundIn, Ready, ShapeReader, from, partAt, partListAt, lastAt, bothAt, literalAt, bareAt, nodeAt, Found, Parses, EndFound, Ends}
 use Rattle.text.specs.declared.Token.the-variants.{Open, Close, Word, End}
@@ -151,28 +150,28 @@ ready-behind {s} {out = out} {c = c} h f =
 no-true : {A : Type 0} → false ≡ true → A
 no-true e = absurd (let z : _≡_ {A = ℕ} 0 1 = cc in omega arith)
 
-pub bare-other : {A : Type 0} (x : Node A) (n : ℕ) (K : List Item) (go : Reader) → headKind true (kindBy x) ≡ false → bareNode x n K go ≡ refused not-accepted
+pub bare-other : {A : Type 0} (x : Node A) (n : ℕ) (K : List Item) (go : Reader) → headKind true (kindBy x) ≡ false → bareNode x n K go ≡ refused NotAccepted
 bare-other (leaf t) n K go e = no-true (sym e)
 bare-other (lit g) n K go e = refl
 bare-other (one g) n K go e = refl
 bare-other (two g) n K go e = refl
 bare-other bad n K go e = refl
 
-pub bare-full : {A : Type 0} (x : Node A) (n : ℕ) (K : List Item) (go : Reader) → headKind true (kindBy x) ≡ true → n ≡ 0 → bareNode x n K go ≡ refused too-many-nodes
+pub bare-full : {A : Type 0} (x : Node A) (n : ℕ) (K : List Item) (go : Reader) → headKind true (kindBy x) ≡ true → n ≡ 0 → bareNode x n K go ≡ refused TooManyNodes
 bare-full (leaf t) n K go e z = ap (λ (n : ℕ). counted n (λ m. map (λ v. (t, v)) (go m K))) z
 bare-full (lit g) n K go e z = no-true e
 bare-full (one g) n K go e z = no-true e
 bare-full (two g) n K go e z = no-true e
 bare-full bad n K go e z = no-true e
 
-pub list-other : (s : Sort) (x : Node (Tree s)) (n : ℕ) (K : List Item) (go : Reader) → headKind false (kindBy x) ≡ false → listNode s x n K go ≡ refused not-accepted
+pub list-other : (s : Sort) (x : Node (Tree s)) (n : ℕ) (K : List Item) (go : Reader) → headKind false (kindBy x) ≡ false → listNode s x n K go ≡ refused NotAccepted
 list-other s (leaf t) n K go e = no-true (sym e)
 list-other s (lit g) n K go e = no-true (sym e)
 list-other s (one g) n K go e = no-true (sym e)
 list-other s (two g) n K go e = no-true (sym e)
 list-other s bad n K go e = refl
 
-pub list-full : (s : Sort) (x : Node (Tree s)) (n : ℕ) (K : List Item) (go : Reader) → headKind false (kindBy x) ≡ true → n ≡ 0 → listNode s x n K go ≡ refused too-many-nodes
+pub list-full : (s : Sort) (x : Node (Tree s)) (n : ℕ) (K : List Item) (go : Reader) → headKind false (kindBy x) ≡ true → n ≡ 0 → listNode s x n K go ≡ refused TooManyNodes
 list-full s (leaf t) n K go e z = ap (λ (n : ℕ). listNode s (leaf t) n K go) z
 list-full s (lit g) n K go e z = ap (λ (n : ℕ). listNode s (lit g) n K go) z
 list-full s (one g) n K go e z = ap (λ (n : ℕ). listNode s (one g) n K go) z
@@ -180,7 +179,7 @@ list-full s (two g) n K go e z = ap (λ (n : ℕ). listNode s (two g) n K go) z
 list-full s bad n K go e z = no-true e
 
 -- One node less is left.
-one-less : {A : Type 0} (n : ℕ) (k : ℕ → Outcome A) → (n ≡ 0 → ⊥) → counted n k ≡ k (n - 1)
+one-less : {A : Type 0} (n : ℕ) (k : ℕ → Result A) → (n ≡ 0 → ⊥) → counted n k ≡ k (n - 1)
 one-less zero k z = absurd (z refl)
 one-less (suc m) k z = let p : m ≡ suc m - 1 = omega arith in ap k p
 

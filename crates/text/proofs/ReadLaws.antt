@@ -6,13 +6,12 @@ use mathlib.Core.Bool.{Bool, true, false}
 use mathlib.Core.List.{List, [], _∷_}
 use lib.ListN.{length, drop}
 use Rattle.formula.specs.Answers.{pick, sameBytes}
-use Rattle.calculus.specs.Refusal.{large-dimension, not-accepted}
-use Rattle.refusals.specs.Refusals.{refusalOf}
 use Rattle.refusals.specs.declared.Refusal.{Refusal}
 use Rattle.refusals.specs.declared.Refusal.the-variants.{LargeDimension, NotAccepted}
+use Rattle.refusals.specs.Refusals.{Result, refused, done, map}
 use Rattle.text.specs.Tokens.{Token, opening, closing, word, tokens}
 use Rattle.text.specs.Words.{zero-word, succ-word}
-use Rattle.text.specs.Reading.{Item, number, numberList, close, Values, Outcome, refused, done, map, succeeded, run}
+use Rattle.text.specs.Reading.{Item, number, numberList, close, Values, succeeded, run}
 use Rattle.text.specs.Scanning.{between, Lexes, Closes, NumberReader, numberAt, numberListAt, closeAt, nextAt, NumberRead, Numerals}
 use Rattle.text.specs.declared.Token.the-variants.{Open, Close, Word, End}
 use Rattle.text.specs.declared.Closed.{Closed}
@@ -21,7 +20,7 @@ use Rattle.text.specs.declared.Numeral.{Numeral}
 use Rattle.text.specs.declared.Numeral.the-variants.{Read, Refused}
 
 -- What is read goes through the functions that are put around it.
-pub map-map : {A B C : Type 0} (f : B → C) (g : A → B) (o : Outcome A) → map f (map g o) ≡ map (λ x. f (g x)) o
+pub map-map : {A B C : Type 0} (f : B → C) (g : A → B) (o : Result A) → map f (map g o) ≡ map (λ x. f (g x)) o
 map-map f g (refused e) = refl
 map-map f g (done x) = refl
 
@@ -57,7 +56,7 @@ unfolding run
 number-zero {l} {i} {b} {e} {most} h z =
     record {
       it = record {
-        reads = λ n K. ap (λ (ts : List Token). run ts n (number most ∷ K)) (h .it .0) ∙ ap (λ (t : Bool). pick t (map (λ v. (0, v)) (run (tokens (drop e l)) n K)) (refused not-accepted)) z;
+        reads = λ n K. ap (λ (ts : List Token). run ts n (number most ∷ K)) (h .it .0) ∙ ap (λ (t : Bool). pick t (map (λ v. (0, v)) (run (tokens (drop e l)) n K)) (refused NotAccepted)) z;
         ahead = omega (arith, h .it .1, h .it .2);
         inside = h .it .3;
         low = omega arith;
@@ -66,7 +65,7 @@ number-zero {l} {i} {b} {e} {most} h z =
 
 pub number-other : {l : List ℕ} {i b e most : ℕ} → Lexes l i (Word b e) → sameBytes zero-word (between b e l) ≡ false → Numerals (numberAt l i most) l i most (Refused NotAccepted)
 unfolding run
-number-other {l} {e = e} {most} h z = record { it = λ n K. ap (λ (ts : List Token). run ts n (number most ∷ K)) (h .it .0) ∙ ap (λ (t : Bool). pick t (map (λ v. (0, v)) (run (tokens (drop e l)) n K)) (refused not-accepted)) z }
+number-other {l} {e = e} {most} h z = record { it = λ n K. ap (λ (ts : List Token). run ts n (number most ∷ K)) (h .it .0) ∙ ap (λ (t : Bool). pick t (map (λ v. (0, v)) (run (tokens (drop e l)) n K)) (refused NotAccepted)) z }
 
 pub number-close : {l : List ℕ} {i e most : ℕ} → Lexes l i (Close e) → Numerals (numberAt l i most) l i most (Refused NotAccepted)
 unfolding run
@@ -78,22 +77,22 @@ number-end {most = most} h = record { it = λ n K. ap (λ (ts : List Token). run
 
 -- The list of a number: z and its end, s and what follows, and what is none.
 listed : {l : List ℕ} {i b e : ℕ} → Lexes l i (Word b e) → (most n : ℕ) (K : List Item)
-    → numberListAt l i most n K ≡ pick (sameBytes zero-word (between b e l)) (closeAt l e 0 n K) (pick (sameBytes succ-word (between b e l)) (nextAt l e most n K) (refused not-accepted))
+    → numberListAt l i most n K ≡ pick (sameBytes zero-word (between b e l)) (closeAt l e 0 n K) (pick (sameBytes succ-word (between b e l)) (nextAt l e most n K) (refused NotAccepted))
 unfolding run
 listed h most n K = ap (λ (ts : List Token). run ts n (numberList most ∷ K)) (h .it .0)
 
 pub list-zero : {l : List ℕ} {i b e most : ℕ} {r : Numeral} → Lexes l i (Word b e) → sameBytes zero-word (between b e l) ≡ true → Numerals (closeAt l e 0) l e most r → Numerals (numberListAt l i most) l i most r
-list-zero {l} {i} {b} {e} {most} h z k = numerals-as (λ n K. listed h most n K ∙ ap (λ (t : Bool). pick t (closeAt l e 0 n K) (pick (sameBytes succ-word (between b e l)) (nextAt l e most n K) (refused not-accepted))) z) (omega (arith, h .it .1, h .it .2)) k
+list-zero {l} {i} {b} {e} {most} h z k = numerals-as (λ n K. listed h most n K ∙ ap (λ (t : Bool). pick t (closeAt l e 0 n K) (pick (sameBytes succ-word (between b e l)) (nextAt l e most n K) (refused NotAccepted))) z) (omega (arith, h .it .1, h .it .2)) k
 
 pub list-succ : {l : List ℕ} {i b e most : ℕ} {r : Numeral} → Lexes l i (Word b e) → sameBytes zero-word (between b e l) ≡ false → sameBytes succ-word (between b e l) ≡ true → Numerals (nextAt l e most) l e most r → Numerals (numberListAt l i most) l i most r
 list-succ {l} {i} {b} {e} {most} h z s k =
     numerals-as
-    (λ n K. listed h most n K ∙ ap (λ (t : Bool). pick t (closeAt l e 0 n K) (pick (sameBytes succ-word (between b e l)) (nextAt l e most n K) (refused not-accepted))) z ∙ ap (λ (t : Bool). pick t (nextAt l e most n K) (refused not-accepted)) s)
+    (λ n K. listed h most n K ∙ ap (λ (t : Bool). pick t (closeAt l e 0 n K) (pick (sameBytes succ-word (between b e l)) (nextAt l e most n K) (refused NotAccepted))) z ∙ ap (λ (t : Bool). pick t (nextAt l e most n K) (refused NotAccepted)) s)
     (omega (arith, h .it .1, h .it .2))
     k
 
 pub list-other : {l : List ℕ} {i b e most : ℕ} → Lexes l i (Word b e) → sameBytes zero-word (between b e l) ≡ false → sameBytes succ-word (between b e l) ≡ false → Numerals (numberListAt l i most) l i most (Refused NotAccepted)
-list-other {l} {i} {b} {e} {most} h z s = record { it = λ n K. listed h most n K ∙ ap (λ (t : Bool). pick t (closeAt l e 0 n K) (pick (sameBytes succ-word (between b e l)) (nextAt l e most n K) (refused not-accepted))) z ∙ ap (λ (t : Bool). pick t (nextAt l e most n K) (refused not-accepted)) s }
+list-other {l} {i} {b} {e} {most} h z s = record { it = λ n K. listed h most n K ∙ ap (λ (t : Bool). pick t (closeAt l e 0 n K) (pick (sameBytes succ-word (between b e l)) (nextAt l e most n K) (refused NotAccepted))) z ∙ ap (λ (t : Bool). pick t (nextAt l e most n K) (refused NotAccepted)) s }
 
 pub list-open : {l : List ℕ} {i e most : ℕ} → Lexes l i (Open e) → Numerals (numberListAt l i most) l i most (Refused NotAccepted)
 unfolding run

@@ -15,13 +15,12 @@ use Rattle.formula.specs.Formula.{Face}
 use Rattle.formula.specs.Bytes.{Tree, encode, nodes, maxNodes, maxBound}
 use Rattle.formula.specs.Answers.{pick, sameBytes, Put}
 use Rattle.operations.proofs.ResultLaws.{len-short}
-use Rattle.calculus.specs.Refusal.{short-output, not-accepted}
-use Rattle.refusals.specs.Refusals.{refusalOf}
 use Rattle.refusals.specs.declared.Refusal.{Refusal}
 use Rattle.refusals.specs.declared.Refusal.the-variants.{ShortOutput, NotAccepted}
+use Rattle.refusals.specs.Refusals.{Result, refused, done, map}
 use Rattle.text.specs.Tokens.{Token, tokens}
 use Rattle.text.specs.Words.{entails-word}
-use Rattle.text.specs.Reading.{Item, formula, part, number, claim, Outcome, refused, done, map, run, readFormula, Claimed, readClaim}
+use Rattle.text.specs.Reading.{Item, formula, part, number, claim, run, readFormula, Claimed, readClaim}
 use Rattle.text.specs.Scanning.{between, Lexes, numberAt, Numerals}
 use Rattle.text.specs.Parsing.{single, partAt, from, Found, Parses}
 use Rattle.text.specs.Answers.{Delivered, delivered, saidLength, ReadsInto, BothDelivered, bothPut, bothDelivered, saidClaim, ReadsClaim}
@@ -95,23 +94,23 @@ made-front x d {m} e h =
 pub delivers : {x out out′ : List ℕ} {t : Bool} → t ≡ true → Put x 0 out t out′ → Delivers x out (Bytes (length x)) out′
 delivers {x} {out} e h =
     let b : leb (length x) (length out) ≡ true = ap (λ (n : ℕ). leb n (length out)) (sym (zero-add (length x))) ∙ sym (h .says) ∙ e in
-    record { equal = ap (λ (t : Bool). pick t (record { answer = done (length x); output = sets out 0 x }) (record { answer = refused short-output; output = out })) b ∙ ap (λ (o : List ℕ). record { answer = done (length x); output = o }) (sym (h .leaves ∙ ap (λ (t : Bool). pick t (sets out 0 x) out) (sym (h .says) ∙ e))) }
+    record { equal = ap (λ (t : Bool). pick t (record { answer = done (length x); output = sets out 0 x }) (record { answer = refused ShortOutput; output = out })) b ∙ ap (λ (o : List ℕ). record { answer = done (length x); output = o }) (sym (h .leaves ∙ ap (λ (t : Bool). pick t (sets out 0 x) out) (sym (h .says) ∙ e))) }
 
 pub delivers-not : {x out out′ : List ℕ} {t : Bool} → t ≡ false → Put x 0 out t out′ → Delivers x out (refusedLength ShortOutput) out′
 delivers-not {x} {out} e h =
     let b : leb (length x) (length out) ≡ false = ap (λ (n : ℕ). leb n (length out)) (sym (zero-add (length x))) ∙ sym (h .says) ∙ e in
-    record { equal = ap (λ (t : Bool). pick t (record { answer = done (length x); output = sets out 0 x }) (record { answer = refused short-output; output = out })) b ∙ ap (λ (o : List ℕ). record { answer = refused short-output; output = o }) (sym (h .leaves ∙ ap (λ (t : Bool). pick t (sets out 0 x) out) (sym (h .says) ∙ e))) }
+    record { equal = ap (λ (t : Bool). pick t (record { answer = done (length x); output = sets out 0 x }) (record { answer = refused ShortOutput; output = out })) b ∙ ap (λ (o : List ℕ). record { answer = refused ShortOutput; output = o }) (sym (h .leaves ∙ ap (λ (t : Bool). pick t (sets out 0 x) out) (sym (h .says) ∙ e))) }
 
 pub formula-delivered : {s : Sort} {l made made′ out out′ : List ℕ} {m : ℕ} {r : Length} → WholeFound s l 0 made m made′ → length made ≡ 1024 → Delivers (take m made′) out r out′ → ReadsInto s l out r out′
 unfolding readFormula
 formula-delivered {s} {l} {made} {made′} {out} {m = m} f k h =
     let x : List ℕ = encode s (f .tree) in
     let p : take m made′ ≡ x = ap (take m) (f .wrote) ∙ made-front x made (f .upto) (omega (arith, f .short, k)) in
-    record { equal = ap (λ (o : Outcome (Tree s)). delivered (map (encode s) o) out) (ap (map (λ v. v .0)) (f .reads 0)) ∙ ap (λ (x : List ℕ). delivered (done x) out) (sym p) ∙ h .equal }
+    record { equal = ap (λ (o : Result (Tree s)). delivered (map (encode s) o) out) (ap (map (λ v. v .0)) (f .reads 0)) ∙ ap (λ (x : List ℕ). delivered (done x) out) (sym p) ∙ h .equal }
 
 pub formula-refused : {s : Sort} {l made made′ out : List ℕ} {q : Refusal} → Whole s l 0 made (Refused q) made′ → ReadsInto s l out (refusedLength q) out
 unfolding readFormula
-formula-refused {s} {out = out} h = record { equal = ap (λ (o : Outcome (Tree s)). delivered (map (encode s) o) out) (ap (map (λ v. v .0)) (h .it 0)) }
+formula-refused {s} {out = out} h = record { equal = ap (λ (o : Result (Tree s)). delivered (map (encode s) o) out) (ap (map (λ v. v .0)) (h .it 0)) }
 
 -- Claims ---------------------------------------------------------------------------------------------------
 
@@ -130,11 +129,11 @@ module _ {l : List ℕ} where
 
   pub claim-other : {b e : ℕ} → Lexes l 0 (Word b e) → sameBytes entails-word (between b e l) ≡ false → ClaimStarts l Missing
   unfolding run
-  claim-other {e = e} h q = record { it = λ n K. ap (λ (ts : List Token). run ts n (claim ∷ K)) (h .it .0) ∙ ap (λ (t : Bool). pick t (run (tokens (drop e l)) n K) (refused not-accepted)) q }
+  claim-other {e = e} h q = record { it = λ n K. ap (λ (ts : List Token). run ts n (claim ∷ K)) (h .it .0) ∙ ap (λ (t : Bool). pick t (run (tokens (drop e l)) n K) (refused NotAccepted)) q }
 
   pub claim-word : {b e : ℕ} → Lexes l 0 (Word b e) → sameBytes entails-word (between b e l) ≡ true → ClaimStarts l (Behind e)
   unfolding run
-  claim-word {e = e} h q = record { it = (λ n K. ap (λ (ts : List Token). run ts n (claim ∷ K)) (h .it .0) ∙ ap (λ (t : Bool). pick t (run (tokens (drop e l)) n K) (refused not-accepted)) q, h .it .3) }
+  claim-word {e = e} h q = record { it = (λ n K. ap (λ (ts : List Token). run ts n (claim ∷ K)) (h .it .0) ∙ ap (λ (t : Bool). pick t (run (tokens (drop e l)) n K) (refused NotAccepted)) q, h .it .3) }
 
 pub second-found : {l b b′ : List ℕ} {d : ℕ} {c e : Cursor} → Whole Faces l (c .at) b (Read e) b′ → SecondFace l d c b (ReadClaim d (c .to) (e .to)) b′
 second-found h = record { it = (refl, refl, h .it) }
@@ -198,8 +197,8 @@ no-right false = refl
 
 module _ (d : ℕ) (x y a b : List ℕ) where
   picked : (t : Bool) → (leb (length x) (length a) && leb (length y) (length b)) ≡ t
-      → bothPut d x y a b ≡ pick t (record { answer = done (record { dimensions = d; left = length x; right = length y }); left = sets a 0 x; right = sets b 0 y }) (record { answer = refused short-output; left = a; right = b })
-  picked t e = ap (λ (t : Bool). pick t (record { answer = done (record { dimensions = d; left = length x; right = length y }); left = sets a 0 x; right = sets b 0 y }) (record { answer = refused short-output; left = a; right = b })) e
+      → bothPut d x y a b ≡ pick t (record { answer = done (record { dimensions = d; left = length x; right = length y }); left = sets a 0 x; right = sets b 0 y }) (record { answer = refused ShortOutput; left = a; right = b })
+  picked t e = ap (λ (t : Bool). pick t (record { answer = done (record { dimensions = d; left = length x; right = length y }); left = sets a 0 x; right = sets b 0 y }) (record { answer = refused ShortOutput; left = a; right = b })) e
 
   pub both-short-left : length a < length x → DeliversBoth d x y a b (RefusedClaim ShortOutput) a b
   both-short-left h = record { equal = picked false (ap (λ (t : Bool). t && leb (length y) (length b)) (lt-leb _ _ h)) }
@@ -217,10 +216,10 @@ claim-delivered {a = a} {b = b} {m = m} {n} {m′} {n′} {d} {x} {y} f h k g =
     let v : List ℕ = encode Faces (f .right) in
     let p : take x m′ ≡ u = ap (take x) (f .wrote-left) ∙ made-front u m (f .upto-left) (omega (arith, f .short-left, h)) in
     let q : take y n′ ≡ v = ap (take y) (f .wrote-right) ∙ made-front v n (f .upto-right) (omega (arith, f .short-right, k)) in
-    record { equal = ap (λ (o : Outcome Claimed). bothDelivered o a b) (f .reads) ∙ ap₂ (λ (u v : List ℕ). bothPut d u v a b) (sym p) (sym q) ∙ g .equal }
+    record { equal = ap (λ (o : Result Claimed). bothDelivered o a b) (f .reads) ∙ ap₂ (λ (u v : List ℕ). bothPut d u v a b) (sym p) (sym q) ∙ g .equal }
 
 pub claim-refused : {l a b m n m′ n′ : List ℕ} {q : Refusal} → WholeClaim l m n (RefusedClaim q) m′ n′ → ReadsClaim l a b (RefusedClaim q) a b
-claim-refused {a = a} {b} h = record { equal = ap (λ (o : Outcome Claimed). bothDelivered o a b) (h .it) }
+claim-refused {a = a} {b} h = record { equal = ap (λ (o : Result Claimed). bothDelivered o a b) (h .it) }
 
 -- What was answered, by its case.
 module _ {s : Sort} {l out out′ : List ℕ} {i : ℕ} {r : Parsed} (h : Whole s l i out r out′) where

@@ -9,10 +9,10 @@ use Rattle.formula.specs.declared.Sort.{Sort}
 use Rattle.formula.specs.declared.Kind.{Kind}
 use Rattle.formula.specs.declared.Kind.the-variants.{Nullary, Literal, Unary, Binary, Unknown}
 use Rattle.formula.specs.Bytes.{Tree, dimBytes, dimWidth, encode, nodes, bound, maxBound}
-use Rattle.refusals.specs.Refusals.{refusalOf}
+use Rattle.refusals.specs.Refusals.{Result, refused, map}
 use Rattle.text.specs.Tokens.{tokens}
 use Rattle.text.specs.Words.{nodeNamed}
-use Rattle.text.specs.Reading.{Item, part, partList, number, close, Values, Outcome, refused, map, bareNode, listNode, maxDim, run}
+use Rattle.text.specs.Reading.{Item, part, partList, number, close, Values, bareNode, listNode, maxDim, run}
 use Rattle.text.specs.Scanning.{between}
 use Rattle.text.specs.declared.Cursor.{Cursor}
 use Rattle.text.specs.declared.Parsed.{Parsed}
@@ -63,10 +63,10 @@ Behind b c l = (b < c .at) × (c .at ≤ length l)
 
 -- A reader of a shape, with whatever is expected behind it.
 abbrev pub ShapeReader : Shape → Type 0
-ShapeReader x = (K : List Item) → Outcome (Thing x × Values K)
+ShapeReader x = (K : List Item) → Result (Thing x × Values K)
 
 -- What follows the cursor.
-abbrev pub from : List ℕ → Cursor → (K : List Item) → Outcome (Values K)
+abbrev pub from : List ℕ → Cursor → (K : List Item) → Result (Values K)
 from l c K = run (tokens (drop (c .at) l)) (c .left) K
 
 -- A part from the cursor on; one whose list opened before; the last part of a list, both parts, or the dimension of one.
@@ -106,7 +106,7 @@ pub record Found (x : Shape) (F : ShapeReader x) (l : List ℕ) (c : Cursor) (ou
 -- What the reader of a shape answers.
 abbrev pub ParsesAs : (x : Shape) → ShapeReader x → List ℕ → Cursor → List ℕ → Parsed → List ℕ → Type 0
 ParsesAs x F l c out (Read c′) out′ = Found x F l c out c′ out′
-ParsesAs x F l c out (Refused q) out′ = (K : List Item) → F K ≡ refused (refusalOf q)
+ParsesAs x F l c out (Refused q) out′ = (K : List Item) → F K ≡ refused q
 
 pub record Parses (x : Shape) (F : ShapeReader x) (l : List ℕ) (c : Cursor) (out : List ℕ) (r : Parsed) (out′ : List ℕ) : Type 0 where
   pub it : ParsesAs x F l c out r out′
@@ -121,7 +121,7 @@ pub record EndFound (l : List ℕ) (c c′ : Cursor) : Type 0 where
 
 abbrev pub EndsAs : List ℕ → Cursor → Parsed → Type 0
 EndsAs l c (Read c′) = EndFound l c c′
-EndsAs l c (Refused q) = (K : List Item) → from l c (close ∷ K) ≡ refused (refusalOf q)
+EndsAs l c (Refused q) = (K : List Item) → from l c (close ∷ K) ≡ refused q
 
 pub record Ends (l : List ℕ) (c : Cursor) (r : Parsed) : Type 0 where
   pub it : EndsAs l c r

@@ -5,10 +5,10 @@ use mathlib.Core.List.{List, [], _∷_}
 use lib.Dec.{eqb}
 use lib.ListN.{length, take, drop}
 use Rattle.formula.specs.Answers.{pick}
-use Rattle.calculus.specs.Refusal.{not-accepted}
-use Rattle.refusals.specs.Refusals.{refusalOf}
+use Rattle.refusals.specs.declared.Refusal.the-variants.{NotAccepted}
+use Rattle.refusals.specs.Refusals.{Result, refused, map}
 use Rattle.text.specs.Tokens.{opening, closing, word, Class, opens, closes, separates, spells, classOf, tokens}
-use Rattle.text.specs.Reading.{Item, number, numberList, close, Values, Outcome, refused, map, succeeded, run}
+use Rattle.text.specs.Reading.{Item, number, numberList, close, Values, succeeded, run}
 use Rattle.text.specs.declared.Token.{Token}
 use Rattle.text.specs.declared.Token.the-variants.{Open, Close, Word, End}
 use Rattle.text.specs.declared.Closed.{Closed}
@@ -45,14 +45,14 @@ pub record Lexes (l : List ℕ) (i : ℕ) (r : Token) : Type 0 where
 -- A closing parenthesis from place i on, where one is expected.
 abbrev pub ClosesAs : List ℕ → ℕ → Closed → Type 0
 ClosesAs l i (Behind e) = ((n : ℕ) (K : List Item) → run (tokens (drop i l)) n (close ∷ K) ≡ run (tokens (drop e l)) n K) × (i < e) × (e ≤ length l)
-ClosesAs l i Missing = (n : ℕ) (K : List Item) → run (tokens (drop i l)) n (close ∷ K) ≡ refused not-accepted
+ClosesAs l i Missing = (n : ℕ) (K : List Item) → run (tokens (drop i l)) n (close ∷ K) ≡ refused NotAccepted
 
 pub record Closes (l : List ℕ) (i : ℕ) (r : Closed) : Type 0 where
   pub it : ClosesAs l i r
 
 -- A reader of a number, with whatever is expected behind it.
 abbrev pub NumberReader : Type 0
-NumberReader = (n : ℕ) (K : List Item) → Outcome (ℕ × Values K)
+NumberReader = (n : ℕ) (K : List Item) → Result (ℕ × Values K)
 
 -- A number from place i on; one whose list opened before; the end of the list of m; one more than the number from place i on.
 abbrev pub numberAt : List ℕ → ℕ → ℕ → NumberReader
@@ -77,7 +77,7 @@ pub record NumberRead (F : NumberReader) (l : List ℕ) (i most m e : ℕ) : Typ
 -- What the reader of a number answers.
 abbrev pub NumeralsAs : NumberReader → List ℕ → ℕ → ℕ → Numeral → Type 0
 NumeralsAs F l i most (Read m e) = NumberRead F l i most m e
-NumeralsAs F l i most (Refused q) = (n : ℕ) (K : List Item) → F n K ≡ refused (refusalOf q)
+NumeralsAs F l i most (Refused q) = (n : ℕ) (K : List Item) → F n K ≡ refused q
 
 pub record Numerals (F : NumberReader) (l : List ℕ) (i most : ℕ) (r : Numeral) : Type 0 where
   pub it : NumeralsAs F l i most r

@@ -8,10 +8,10 @@ use Rattle.formula.specs.declared.Sort.{Sort}
 use Rattle.formula.specs.declared.Sort.the-variants.{Faces}
 use Rattle.formula.specs.Formula.{Face}
 use Rattle.formula.specs.Bytes.{Tree, encode, maxBound}
-use Rattle.calculus.specs.Refusal.{not-accepted}
-use Rattle.refusals.specs.Refusals.{refusalOf}
+use Rattle.refusals.specs.declared.Refusal.the-variants.{NotAccepted}
+use Rattle.refusals.specs.Refusals.{Result, refused, done}
 use Rattle.text.specs.Tokens.{tokens}
-use Rattle.text.specs.Reading.{Item, formula, number, claim, Outcome, refused, done, run, readFormula, Claimed, readClaim}
+use Rattle.text.specs.Reading.{Item, formula, number, claim, run, readFormula, Claimed, readClaim}
 use Rattle.text.specs.Answers.{delivered, saidLength, bothPut, saidClaim}
 use Rattle.text.specs.declared.Closed.{Closed}
 use Rattle.text.specs.declared.Closed.the-variants.{Behind, Missing}
@@ -25,7 +25,7 @@ use Rattle.text.specs.declared.Claim.the-variants.{Read as ReadClaim, Re
 -- No token follows the cursor.
 abbrev pub FinishesAs : List ℕ → Cursor → Parsed → Type 0
 FinishesAs l c (Read d) = ((n : ℕ) → run (tokens (drop (c .at) l)) n [] ≡ done tt) × (d ≡ c)
-FinishesAs l c (Refused q) = (n : ℕ) → run (tokens (drop (c .at) l)) n [] ≡ refused (refusalOf q)
+FinishesAs l c (Refused q) = (n : ℕ) → run (tokens (drop (c .at) l)) n [] ≡ refused q
 
 pub record Finishes (l : List ℕ) (c : Cursor) (r : Parsed) : Type 0 where
   pub it : FinishesAs l c r
@@ -40,7 +40,7 @@ pub record WholeFound (s : Sort) (l : List ℕ) (i : ℕ) (out : List ℕ) (m : 
 
 abbrev pub WholeAs : (s : Sort) → List ℕ → ℕ → List ℕ → Parsed → List ℕ → Type 0
 WholeAs s l i out (Read c) out′ = WholeFound s l i out (c .to) out′
-WholeAs s l i out (Refused q) out′ = (n : ℕ) → run (tokens (drop i l)) n (formula s ∷ []) ≡ refused (refusalOf q)
+WholeAs s l i out (Refused q) out′ = (n : ℕ) → run (tokens (drop i l)) n (formula s ∷ []) ≡ refused q
 
 pub record Whole (s : Sort) (l : List ℕ) (i : ℕ) (out : List ℕ) (r : Parsed) (out′ : List ℕ) : Type 0 where
   pub it : WholeAs s l i out r out′
@@ -56,7 +56,7 @@ pub record DeliversBoth (d : ℕ) (x y a b : List ℕ) (r : Claim) (a′ b′ : 
 -- The word that a claim starts with.
 abbrev pub ClaimStartsAs : List ℕ → Closed → Type 0
 ClaimStartsAs l (Behind e) = ((n : ℕ) (K : List Item) → run (tokens l) n (claim ∷ K) ≡ run (tokens (drop e l)) n K) × (e ≤ length l)
-ClaimStartsAs l Missing = (n : ℕ) (K : List Item) → run (tokens l) n (claim ∷ K) ≡ refused not-accepted
+ClaimStartsAs l Missing = (n : ℕ) (K : List Item) → run (tokens l) n (claim ∷ K) ≡ refused NotAccepted
 
 pub record ClaimStarts (l : List ℕ) (r : Closed) : Type 0 where
   pub it : ClaimStartsAs l r
@@ -64,7 +64,7 @@ pub record ClaimStarts (l : List ℕ) (r : Closed) : Type 0 where
 -- The second face, behind the cursor; the first took the cursor's bytes.
 abbrev pub SecondFaceAs : List ℕ → ℕ → Cursor → List ℕ → Claim → List ℕ → Type 0
 SecondFaceAs l d c b (ReadClaim e x y) b′ = (e ≡ d) × (x ≡ c .to) × WholeFound Faces l (c .at) b y b′
-SecondFaceAs l d c b (RefusedClaim q) b′ = (n : ℕ) → run (tokens (drop (c .at) l)) n (formula Faces ∷ []) ≡ refused (refusalOf q)
+SecondFaceAs l d c b (RefusedClaim q) b′ = (n : ℕ) → run (tokens (drop (c .at) l)) n (formula Faces ∷ []) ≡ refused q
 
 pub record SecondFace (l : List ℕ) (d : ℕ) (c : Cursor) (b : List ℕ) (r : Claim) (b′ : List ℕ) : Type 0 where
   pub it : SecondFaceAs l d c b r b′
@@ -83,7 +83,7 @@ pub record FacesFound (l : List ℕ) (i : ℕ) (a b : List ℕ) (x y : ℕ) (a�
 
 abbrev pub BothFacesAs : List ℕ → ℕ → ℕ → List ℕ → List ℕ → Claim → List ℕ → List ℕ → Type 0
 BothFacesAs l i d a b (ReadClaim e x y) a′ b′ = (e ≡ d) × FacesFound l i a b x y a′ b′
-BothFacesAs l i d a b (RefusedClaim q) a′ b′ = (n : ℕ) → run (tokens (drop i l)) n (formula Faces ∷ formula Faces ∷ []) ≡ refused (refusalOf q)
+BothFacesAs l i d a b (RefusedClaim q) a′ b′ = (n : ℕ) → run (tokens (drop i l)) n (formula Faces ∷ formula Faces ∷ []) ≡ refused q
 
 pub record BothFaces (l : List ℕ) (i d : ℕ) (a b : List ℕ) (r : Claim) (a′ b′ : List ℕ) : Type 0 where
   pub it : BothFacesAs l i d a b r a′ b′
@@ -102,7 +102,7 @@ pub record ClaimFound (l a b : List ℕ) (d x y : ℕ) (a′ b′ : List ℕ) : 
 
 abbrev pub WholeClaimAs : List ℕ → List ℕ → List ℕ → Claim → List ℕ → List ℕ → Type 0
 WholeClaimAs l a b (ReadClaim d x y) a′ b′ = ClaimFound l a b d x y a′ b′
-WholeClaimAs l a b (RefusedClaim q) a′ b′ = readClaim l ≡ refused (refusalOf q)
+WholeClaimAs l a b (RefusedClaim q) a′ b′ = readClaim l ≡ refused q
 
 pub record WholeClaim (l a b : List ℕ) (r : Claim) (a′ b′ : List ℕ) : Type 0 where
   pub it : WholeClaimAs l a b r a′ b′

@@ -13,7 +13,7 @@ use Rattle.operations.specs.declared.Op.the-variants.{DShift, DSubst}
 use Rattle.formula.specs.Operations.{Op, shift, subst, dimTo, itransform, ftransform, transform}
 use Rattle.formula.specs.Bytes.{dimBytes, nodeOf, encodeFace, encodeInterval, nodesFace, nodesInterval, boundFace, boundInterval}
 use Rattle.formula.specs.Answers.{partAt, treeOf}
-use Rattle.formula.specs.declared.Step.the-variants.{Lit}
+use Rattle.formula.specs.declared.Advance.the-variants.{Lit}
 use Rattle.formula.specs.declared.Place.{Place}
 use Rattle.formula.specs.Formula.{End, lo, hi, Face, at, Interval, dim, beside}
 use Rattle.formula.proofs.Compare.{compare-lt, compare-eq, compare-gt, lt-of-compare}

@@ -1,9 +1,9 @@
 // The judgements of a transformed formula, beside the bytes of the result.
+use formula::Advance;
 use formula::Place;
 use formula::Sort;
-use formula::Step;
 use operations::Op;
-use operations::Outcome;
+use operations::Sized;
 use steps::Paired;
 use steps::Ran;
 ghost use mathlib.Core.Path.{_≡_};
@@ -210,10 +210,8 @@ fn image(op: Op, r: &[u8], t: &[u8], out: &mut [u8]) -> usize
     ensures { λ m. ⌜ (m ≤ length (now (out .exit))) × Is Sort.Intervals (transformOf Sort.Intervals (opOf op (now (t .entry))) (treeOf Sort.Intervals (now (r .entry)))) (take m (now (out .exit))) ⌝ }
 {
     match operations::transform(Sort::Intervals, op, r, t, out) {
-        Outcome::Done(z) => z.len,
-        Outcome::Short(_) => 0,
-        Outcome::Over => 0,
-        Outcome::Ill => 0,
+        Sized::Fits(z) => z.len,
+        Sized::Refused(_) => 0,
     }
 }
 
@@ -225,15 +223,13 @@ fn boundary_steps(l: &mut [u8], ix: &mut [u32], r: &[u8]) -> Ran
     let mut zero = [0u8; 1024];
     let mut one = [0u8; 1024];
     match operations::boundary(r, &mut zero, &mut one) {
-        Outcome::Done(z) => {
+        Sized::Fits(z) => {
             let m = z.len;
             let a = &zero[..m];
             let b = &one[..m];
             boundary_steps::boundary(l, ix, r, a, b)
         }
-        Outcome::Short(_) => Ran::Full,
-        Outcome::Over => Ran::Full,
-        Outcome::Ill => Ran::Full,
+        Sized::Refused(_) => Ran::Full,
     }
 }
 
@@ -366,12 +362,12 @@ fn transform_at(
     let at = p.at;
     let from = q.at;
     match p.step(sort, f) {
-        Step::Leaf(e) => {
+        Advance::Leaf(e) => {
             let w = steps::over(sort, out, q);
             transform_end(l, ix, sort, op, f, at, e, t, out, from, w, 0, 0)
         }
-        Step::Lit(e, n) => transform_lit(l, ix, sort, op, n, f, p, e, t, out, q),
-        Step::One(e) => {
+        Advance::Lit(e, n) => transform_lit(l, ix, sort, op, n, f, p, e, t, out, q),
+        Advance::One(e) => {
             let a = transform_at(l, ix, sort, op, f, e, t, out, steps::below(out, q));
             let under = a.ran;
             if !steps::is_done(under) {
@@ -380,7 +376,7 @@ fn transform_at(
             let i = steps::step_of(under);
             transform_end(l, ix, sort, op, f, at, a.place, t, out, from, a.image, i, 0)
         }
-        Step::Two(e) => {
+        Advance::Two(e) => {
             let a = transform_at(l, ix, sort, op, f, e, t, out, steps::inside(out, q));
             let left = a.ran;
             if !steps::is_done(left) {
@@ -395,7 +391,7 @@ fn transform_at(
             let j = steps::step_of(right);
             transform_end(l, ix, sort, op, f, at, b.place, t, out, from, b.image, i, j)
         }
-        Step::Stuck => steps::nowhere(p, q),
+        Advance::Stuck => steps::nowhere(p, q),
     }
 }
 

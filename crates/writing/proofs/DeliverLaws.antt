@@ -15,12 +15,11 @@ use Rattle.formula.specs.declared.Size.{Size}
 use Rattle.formula.specs.declared.Measured.{Measured}
 use Rattle.formula.specs.declared.Measured.the-variants.{Formula, Ill}
 use Rattle.formula.specs.Bytes.{Tree, encode, got, read, readAll, nodes, bound, maxNodes, maxBound}
-use Rattle.formula.specs.Answers.{pick, sizeOf, measuredAs, measured}
-use Rattle.formula.proofs.Measuring.{Sized}
+use Rattle.formula.specs.Answers.{pick, sizeOf, saidMeasured, measurement}
+use Rattle.formula.proofs.Measuring.{measuredAs, measured, measured-as, Sized}
 use Rattle.formula.proofs.Reading.{read-encode, encode-readAll}
-use Rattle.calculus.specs.Refusal.{not-a-formula, too-many-nodes, large-dimension, short-output}
 use Rattle.refusals.specs.declared.Refusal.the-variants.{NotAFormula, TooManyNodes, LargeDimension, ShortOutput}
-use Rattle.text.specs.Reading.{refused, done}
+use Rattle.refusals.specs.Refusals.{refused, done}
 use Rattle.text.specs.Answers.{delivered}
 use Rattle.text.specs.Wholes.{Delivers}
 use Rattle.text.specs.declared.Length.{Length}
@@ -33,12 +32,12 @@ use Rattle.writing.proofs.TextLaws.{text-long}
 
 -- A text that was measured and does not fit, or was written.
 by-room : (x out : List ℕ) (t : Bool) → leb (length x) (length out) ≡ t
-    → delivered (done x) out ≡ pick t (record { answer = done (length x); output = sets out 0 x }) (record { answer = refused short-output; output = out })
-by-room x out t e = ap (λ (t : Bool). pick t (record { answer = done (length x); output = sets out 0 x }) (record { answer = refused short-output; output = out })) e
+    → delivered (done x) out ≡ pick t (record { answer = done (length x); output = sets out 0 x }) (record { answer = refused ShortOutput; output = out })
+by-room x out t e = ap (λ (t : Bool). pick t (record { answer = done (length x); output = sets out 0 x }) (record { answer = refused ShortOutput; output = out })) e
 
 pub short-delivers : {x z z′ out out′ : List ℕ} {n : ℕ} → Wrote x z 0 n z′ → length out < n → out′ ≡ out → Delivers x out (Refused ShortOutput) out′
 short-delivers {x} {out = out} w h e =
-    record { equal = by-room x out false (lt-leb (length x) (length out) (omega (arith, w .end))) ∙ ap (λ (o : List ℕ). record { answer = refused short-output; output = o }) (sym e) }
+    record { equal = by-room x out false (lt-leb (length x) (length out) (omega (arith, w .end))) ∙ ap (λ (o : List ℕ). record { answer = refused ShortOutput; output = o }) (sym e) }
 
 pub wrote-delivers : {x z z′ out out′ : List ℕ} {n m : ℕ} → Wrote x z 0 n z′ → n ≤ length out → Wrote x out 0 m out′ → Delivers x out (Bytes m) out′
 wrote-delivers {x} {out = out} {out′} {m = m} w h v =
@@ -57,20 +56,20 @@ pub sized-wrote : {s : Sort} {l z z′ out out′ : List ℕ} {p q : Place} → 
 sized-wrote g h k = record { it = λ t m r. wrote-delivers (g .it t m r .wrote) h (k .it t m r .wrote) }
 
 -- Nothing but a formula within the limits is written.
-pub writes-ill : (s : Sort) {f : List ℕ} (out : List ℕ) {m : Measured} → m ≡ measured s f → m ≡ Ill → WritesInto s f out (Refused NotAFormula) out
+pub writes-ill : (s : Sort) {f : List ℕ} (out : List ℕ) {m : Measured} → saidMeasured m ≡ measurement s f → m ≡ Ill → WritesInto s f out (Refused NotAFormula) out
 unfolding measured
-writes-ill s {f} out e i = record { equal = go (readAll s f) (sym e ∙ i) }
+writes-ill s {f} out e i = record { equal = go (readAll s f) (sym (measured-as s f e) ∙ i) }
   where
-    go : (o : Option (Tree s)) → measuredAs s o ≡ Ill → delivered (written s o) out ≡ record { answer = refused not-a-formula; output = out }
+    go : (o : Option (Tree s)) → measuredAs s o ≡ Ill → delivered (written s o) out ≡ record { answer = refused NotAFormula; output = out }
     go none k = refl
     go (some t) k = absurd (let q : _≡_ {A = ℕ} 0 1 = cc in omega arith)
 
 module _ (s : Sort) {f : List ℕ} {z : Size} (h : Sized s f z) where
   told : (out : List ℕ) (x y : Bool) → leb (nodes s (h .tree)) maxNodes ≡ x → leb (bound s (h .tree)) maxBound ≡ y
-      → delivered (written s (readAll s f)) out ≡ delivered (pick x (pick y (done (formulaText s (h .tree))) (refused large-dimension)) (refused too-many-nodes)) out
+      → delivered (written s (readAll s f)) out ≡ delivered (pick x (pick y (done (formulaText s (h .tree))) (refused LargeDimension)) (refused TooManyNodes)) out
   told out x y i j =
       ap (λ (o : Option (Tree s)). delivered (written s o) out) (h .whole)
-      ∙ ap₂ (λ (x y : Bool). delivered (pick x (pick y (done (formulaText s (h .tree))) (refused large-dimension)) (refused too-many-nodes)) out) i j
+      ∙ ap₂ (λ (x y : Bool). delivered (pick x (pick y (done (formulaText s (h .tree))) (refused LargeDimension)) (refused TooManyNodes)) out) i j
 
   few : nodes s (h .tree) ≡ z .nodes
   few = ap (λ (z : Size). z .nodes) (h .size)

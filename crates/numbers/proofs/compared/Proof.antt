@@ -3,7 +3,7 @@ use Rattle.numbers.proofs.compared.Statement.{statement}
 use Rattle.numbers.proofs.compared.Tie as tie
 use mathlib.Core.Path.{sym, ap, _∙_}
 use Rattle.repeat_test.specs.declared.Compared.{Compared}
-use Rattle.repeat_test.specs.Repeats.{inDocument}
+use Rattle.repeat_test.specs.Repeats.{said as saidRepeats}
 use Rattle.numbers.specs.Answers.{repeatNumber}
 
 enum-told : tie.Need-enum-told
@@ -25,7 +25,7 @@ returns-2 : tie.Need-returns-2
 returns-2 c = search needs
 
 returns-3 : tie.Need-returns-3
-returns-3 c = c .refused .ensures ∙ ap (λ (x : Compared). repeatNumber (inDocument x)) (sym (c .before .before .a .given .1))
+returns-3 c = c .refused .ensures ∙ ap (λ (x : Compared). repeatNumber (saidRepeats x)) (sym (c .before .before .a .given .1))
 
 pub compared-spec : {M : Type 1} → statement M
 compared-spec =

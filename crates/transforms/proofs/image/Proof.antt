@@ -1,48 +1,40 @@
 use borrow.Author.Needs.{needs}
 use Rattle.transforms.proofs.image.Statement.{statement}
 use Rattle.transforms.proofs.image.Tie as tie
+use Rattle.transforms.proofs.image.Reads as reads
+use Rattle.transforms.proofs.image.Lts as lts
+use Rattle.operations.proofs.transform.Reads as transform-reads
 use mathlib.Core.Path.{ap}
 use Rattle.formula.specs.declared.Sort.the-variants.{Intervals}
-use Rattle.transforms.proofs.ImageLaws.{resulted, image-made, image-front}
+use Rattle.transforms.proofs.ImageLaws.{image-made, image-front}
 
+-- src/lib.rt:212:11
 transform-requires : tie.Need-transform-requires
 transform-requires c κs = search needs
 
+-- src/lib.rt:213:21
 enum-known-z : tie.Need-enum-known-z
 enum-known-z c = search needs
 
+-- src/lib.rt:214:30
 enum-told : tie.Need-enum-told
 enum-told c = search needs
 
-enum-told-2 : tie.Need-enum-told-2
-enum-told-2 c = search needs
-
-enum-told-3 : tie.Need-enum-told-3
-enum-told-3 c = search needs
-
+-- src/lib.rt:208:1
 same-length : tie.Need-same-length
 same-length c = search needs
 
+-- src/lib.rt:208:1
 returns : tie.Need-returns
 returns c = let a = c .before .before .before .before .before .before .before .before .before .before .args in image-front Intervals (a .op) (a .t .now) (c .before .before .before .before .before .before .before .before .before .before .pre .0) (c .before .before .before .before .before .before .before .before .before .before .pre .1) (c .before .before .before .before .before .before .before .before .before .before .pre .2) (c .before .before .before .before .before .before .before .before .before .before .pre .3) (c .before .before .before .before .before .transform .ensures) _ (c .before .z .given .1)
 
+-- src/lib.rt:208:1
 same-length-2 : tie.Need-same-length-2
 same-length-2 c = search needs
 
+-- src/lib.rt:208:1
 returns-2 : tie.Need-returns-2
-returns-2 c = let a = c .before .before .before .before .before .before .before .before .before .args in image-made Intervals (a .op) (a .t .now) (c .before .before .before .before .before .before .before .before .before .pre .0) (c .before .before .before .before .before .before .before .before .before .pre .1) (c .before .before .before .before .before .before .before .before .before .pre .2) (c .before .before .before .before .before .before .before .before .before .pre .3) (c .before .before .before .before .transform .ensures) (ap resulted (c .enum-told .given .1))
-
-same-length-3 : tie.Need-same-length-3
-same-length-3 c = search needs
-
-returns-3 : tie.Need-returns-3
-returns-3 c = let a = c .before .before .before .before .before .before .before .before .before .args in image-made Intervals (a .op) (a .t .now) (c .before .before .before .before .before .before .before .before .before .pre .0) (c .before .before .before .before .before .before .before .before .before .pre .1) (c .before .before .before .before .before .before .before .before .before .pre .2) (c .before .before .before .before .before .before .before .before .before .pre .3) (c .before .before .before .before .transform .ensures) (ap resulted (c .enum-told2 .given .1))
-
-same-length-4 : tie.Need-same-length-4
-same-length-4 c = search needs
-
-returns-4 : tie.Need-returns-4
-returns-4 c = let a = c .before .before .before .before .before .before .before .before .before .args in image-made Intervals (a .op) (a .t .now) (c .before .before .before .before .before .before .before .before .before .pre .0) (c .before .before .before .before .before .before .before .before .before .pre .1) (c .before .before .before .before .before .before .before .before .before .pre .2) (c .before .before .before .before .before .before .before .before .before .pre .3) (c .before .before .before .before .transform .ensures) (ap resulted (c .enum-told3 .given .1))
+returns-2 c = let a = c .before .before .before .before .before .before .before .before .before .args in image-made Intervals (a .op) (a .t .now) (c .before .before .before .before .before .before .before .before .before .pre .0) (c .before .before .before .before .before .before .before .before .before .pre .1) (c .before .before .before .before .before .before .before .before .before .pre .2) (c .before .before .before .before .before .before .before .before .before .pre .3) (c .before .before .before .before .transform .ensures) (c .enum-told .given .1)
 
 pub image-spec : {M : Type 1} → statement M
 image-spec =
@@ -51,13 +43,7 @@ image-spec =
     transform-requires
     enum-known-z
     enum-told
-    enum-told-2
-    enum-told-3
     same-length
     returns
     same-length-2
-    returns-2
-    same-length-3
-    returns-3
-    same-length-4
-    returns-4)
+    returns-2)

@@ -3,7 +3,7 @@ use Rattle.formula.proofs.node.literal_step.Statement.{statement}
 use Rattle.formula.proofs.node.literal_step.Tie as tie
 use mathlib.Core.Path.{ap}
 use borrow.Author.Tests.{le-leb, lt-leb}
-use Rattle.formula.specs.declared.Step.the-variants.{Lit}
+use Rattle.formula.specs.declared.Advance.the-variants.{Lit}
 use Prim.Native.Nat.{_+_}
 
 sub-if1 : tie.Need-sub-if1

@@ -3,7 +3,7 @@ use Rattle.normal.proofs.answers.length.Statement.{statement}
 use Rattle.normal.proofs.answers.length.Tie as tie
 use mathlib.Core.Path.{sym, ap}
 use Rattle.formula.specs.declared.Size.{Size}
-use Rattle.text.specs.Reading.{map}
+use Rattle.refusals.specs.Refusals.{map}
 use Rattle.normal.specs.Answers.{said}
 
 enum-known-a : tie.Need-enum-known-a

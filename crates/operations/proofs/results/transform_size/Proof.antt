@@ -3,7 +3,9 @@ use Rattle.operations.proofs.results.transform_size.Statement.{statemen
 use Rattle.operations.proofs.results.transform_size.Tie as tie
 use native.Mathlib.Omega.{arith}
 use mathlib.Core.Path.{sym, ap, _∙_}
-use Rattle.operations.specs.Results.{sized, transformed}
+use Rattle.refusals.specs.Refusals.{map}
+use Rattle.formula.specs.Answers.{sizeOf}
+use Rattle.operations.specs.Results.{transformed}
 use Rattle.operations.specs.declared.Op.{Op}
 use Rattle.operations.proofs.AnswerLaws.{shift-resized}
 
@@ -21,11 +23,11 @@ subst-size-requires c κs = search needs
 
 returns : tie.Need-returns
 returns c = let a = c .before .before .before .before .before .before .args in
-    c .resized .ensures ∙ sym (ap (λ (o : Op). sized (a .sort) (transformed (a .sort) o (a .s .now) (a .r .now))) (c .before .before .op .given .1) ∙ shift-resized (a .sort) _ (a .s .now) (a .r .now))
+    c .resized .ensures ∙ sym (ap (λ (o : Op). map (sizeOf (a .sort)) (transformed (a .sort) o (a .s .now) (a .r .now))) (c .before .before .op .given .1) ∙ shift-resized (a .sort) _ (a .s .now) (a .r .now))
 
 returns-2 : tie.Need-returns-2
 returns-2 c = let a = c .before .before .before .before .before .before .args in
-    c .subst-size .ensures ∙ sym (ap (λ (o : Op). sized (a .sort) (transformed (a .sort) o (a .s .now) (a .r .now))) (c .before .before .op2 .given .1))
+    c .subst-size .ensures ∙ sym (ap (λ (o : Op). map (sizeOf (a .sort)) (transformed (a .sort) o (a .s .now) (a .r .now))) (c .before .before .op2 .given .1))
 
 pub transform-size-spec : {M : Type 1} → statement M
 transform-size-spec =

@@ -5,7 +5,7 @@ use Prim.Native.Nat.{_+_, _≤_}
 use native.Mathlib.Omega.{arith}
 use mathlib.Core.Path.{sym, ap, _∙_, subst}
 use lib.ListN.{length}
-use Rattle.passes.specs.Passes.{movedBytes, Fielded}
+use Rattle.passes.specs.Rewriting.{movedBytes, Fielded}
 use Rattle.passes.specs.declared.Moved.{Moved}
 use Rattle.passes.proofs.PassLaws.{wrote-as, hit-one, hit-zero}
 

@@ -5,8 +5,8 @@ use Prim.Native.Nat.{_+_, _≤_}
 use native.Mathlib.Omega.{arith}
 use mathlib.Core.Path.{sym, ap, subst}
 use lib.ListN.{length}
-use Rattle.formula.specs.declared.Step.{Step}
-use Rattle.passes.specs.Passes.{Token, imageOf, FieldedAt}
+use Rattle.formula.specs.declared.Advance.{Advance}
+use Rattle.passes.specs.Rewriting.{Token, imageOf, FieldedAt}
 use Rattle.passes.specs.Stepping.{tokenOver, DimOver}
 use Rattle.passes.proofs.PassLaws.{wrote-as, plain-over}
 
@@ -22,7 +22,7 @@ same-length : tie.Need-same-length
 same-length c = search needs
 
 returns : tie.Need-returns
-returns c = let a = c .before .before .before .before .before .before .before .before .before .before .args in wrote-as (sym (ap (λ (y : Step). imageOf (a .rule) (a .zero .now) (a .one .now) (tokenOver (a .b) y)) (c .before .before .before .before .before .x .given .1))) (c .before .before .literal-out .ensures)
+returns c = let a = c .before .before .before .before .before .before .before .before .before .before .args in wrote-as (sym (ap (λ (y : Advance). imageOf (a .rule) (a .zero .now) (a .one .now) (tokenOver (a .b) y)) (c .before .before .before .before .before .x .given .1))) (c .before .before .literal-out .ensures)
 
 byte-out-requires : tie.Need-byte-out-requires
 byte-out-requires c κs = let a = c .before .before .before .before .before .args in omega (arith, ap (λ (y : Token). length (imageOf (a .rule) (a .zero .now) (a .one .now) y)) (plain-over (a .b) (a .x) (c .before .match .keys2)), c .before .before .before .before .before .pre .2)

@@ -2,7 +2,7 @@ use borrow.Author.Needs.{needs}
 use Rattle.passes.proofs.weighing.ends_weight.Statement.{statement}
 use Rattle.passes.proofs.weighing.ends_weight.Tie as tie
 use mathlib.Core.Path.{sym, ap}
-use Rattle.passes.specs.Passes.{plainWeight}
+use Rattle.passes.specs.Rewriting.{plainWeight}
 use Rattle.passes.specs.declared.Rule.the-variants.{Ends}
 
 enum-told : tie.Need-enum-told

@@ -3,7 +3,7 @@ use Rattle.passes.proofs.weighing.literal_weight.Statement.{statement}
 use Rattle.passes.proofs.weighing.literal_weight.Tie as tie
 use native.Mathlib.Omega.{arith}
 use mathlib.Core.Path.{sym, ap, _∙_, subst}
-use Rattle.passes.specs.Passes.{movedWeight}
+use Rattle.passes.specs.Rewriting.{movedWeight}
 use Rattle.passes.specs.declared.Moved.{Moved}
 use Rattle.passes.proofs.PassLaws.{Near, near}
 

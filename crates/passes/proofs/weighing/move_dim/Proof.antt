@@ -2,7 +2,7 @@ use borrow.Author.Needs.{needs}
 use Rattle.passes.proofs.weighing.move_dim.Statement.{statement}
 use Rattle.passes.proofs.weighing.move_dim.Tie as tie
 use mathlib.Core.Path.{sym, ap, _∙_}
-use Rattle.passes.specs.Passes.{movedTo}
+use Rattle.passes.specs.Rewriting.{movedTo}
 use Rattle.passes.specs.declared.Rule.{Rule}
 
 enum-known-rule : tie.Need-enum-known-rule

@@ -18,10 +18,11 @@ use Rattle.calculus.specs.Record
 use Rattle.calculus.specs.Parse
 use Rattle.calculus.specs.Parse.{readLedger}
 use Rattle.calculus.specs.Emit
-use Rattle.calculus.specs.Emit.{done, not-below, not-implied, unbounded, run}
+use Rattle.calculus.specs.Emit.{done, unbounded, run}
 use Rattle.calculus.specs.Calls
 use Rattle.calculus.specs.Calls.{emitEntails}
-use Rattle.calculus.specs.Refusal.{Refusal, ill-formed-ledger, not-a-formula, too-many-nodes, large-dimension, large-result, short-output, full-ledger, failing}
+use Rattle.refusals.specs.declared.Refusal.{Refusal}
+use Rattle.refusals.specs.declared.Refusal.the-variants.{IllFormedLedger, NotAFormula, TooManyNodes, LargeDimension, LargeResult, ShortOutput, FullLedger, NotBelow, NotImplied}
 use Rattle.calculus.specs.Door.{Call, face, interval, boundary, forall, shift, substitute, entails, _>>=_, taskOf, outputsOf, Answer, answered, refused, Reply, refuse, firstNo, questions, reply}
 use Rattle.calculus.specs.Demand.{empty}
 
@@ -58,7 +59,7 @@ listings = reply listed (empty 80) ∷ reply listed (empty 78) ∷ reply listed 
 
 listings-as : listings
     ≡ record { answer = answered 5 []; ledger = listing ++ 0 ∷ []; outputs = [] }
-    ∷ refuse full-ledger (empty 78) []
+    ∷ refuse FullLedger (empty 78) []
     ∷ record { answer = answered 5 []; ledger = listing; outputs = [] }
     ∷ []
 unfolding listings listed listing model
@@ -82,7 +83,7 @@ marked =
     []
     )
 
-marked-as : marked ≡ answered 31 [] ∷ answered 12 [] ∷ refused (failing not-implied) ∷ refused (failing not-below) ∷ answered 3 [] ∷ []
+marked-as : marked ≡ answered 31 [] ∷ answered 12 [] ∷ refused NotImplied ∷ refused NotBelow ∷ answered 3 [] ∷ []
 unfolding marked answers model
 marked-as = refl
 
@@ -143,7 +144,7 @@ refusals =
 
 refusals-as : refusals
     ≡ map refused (
-    ill-formed-ledger ∷ not-a-formula ∷ too-many-nodes ∷ large-dimension ∷ large-dimension ∷ large-dimension ∷ large-result ∷ short-output ∷ full-ledger ∷ full-ledger ∷ failing not-below ∷ failing not-implied ∷ []
+    IllFormedLedger ∷ NotAFormula ∷ TooManyNodes ∷ LargeDimension ∷ LargeDimension ∷ LargeDimension ∷ LargeResult ∷ ShortOutput ∷ FullLedger ∷ FullLedger ∷ NotBelow ∷ NotImplied ∷ []
     )
 unfolding refusals long-interval long-face model
 refusals-as = refl
@@ -155,7 +156,7 @@ asked c = taskOf c >>= (λ t. firstNo (questions t (outputsOf c)))
 node-limit : List (Option Refusal)
 node-limit = asked (interval 0 (replicate 510 19 ++ 16 ∷ [])) ∷ asked (interval 0 long-interval) ∷ []
 
-node-limit-as : node-limit ≡ none ∷ some too-many-nodes ∷ []
+node-limit-as : node-limit ≡ none ∷ some TooManyNodes ∷ []
 unfolding node-limit asked long-interval model
 node-limit-as = refl
 
@@ -168,9 +169,9 @@ leavings =
     []
 
 leavings-as : leavings
-    ≡ refuse short-output (empty 4) ((9 ∷ []) ∷ [])
-    ∷ record { answer = refused (failing not-below); ledger = 8 ∷ 0 ∷ 0 ∷ 0 ∷ 4 ∷ 0 ∷ 0 ∷ 0 ∷ 12 ∷ 0 ∷ 0 ∷ 1 ∷ 0 ∷ []; outputs = [] }
-    ∷ record { answer = refused (failing not-implied); ledger = 16 ∷ 0 ∷ 0 ∷ 0 ∷ 4 ∷ 0 ∷ 0 ∷ 0 ∷ 12 ∷ 0 ∷ 0 ∷ 1 ∷ 4 ∷ 0 ∷ 0 ∷ 0 ∷ 11 ∷ 0 ∷ 0 ∷ 0 ∷ []; outputs = [] }
+    ≡ refuse ShortOutput (empty 4) ((9 ∷ []) ∷ [])
+    ∷ record { answer = refused NotBelow; ledger = 8 ∷ 0 ∷ 0 ∷ 0 ∷ 4 ∷ 0 ∷ 0 ∷ 0 ∷ 12 ∷ 0 ∷ 0 ∷ 1 ∷ 0 ∷ []; outputs = [] }
+    ∷ record { answer = refused NotImplied; ledger = 16 ∷ 0 ∷ 0 ∷ 0 ∷ 4 ∷ 0 ∷ 0 ∷ 0 ∷ 12 ∷ 0 ∷ 0 ∷ 1 ∷ 4 ∷ 0 ∷ 0 ∷ 0 ∷ 11 ∷ 0 ∷ 0 ∷ 0 ∷ []; outputs = [] }
     ∷ []
 unfolding leavings model
 leavings-as = refl
