@@ -1,0 +1,42 @@
+#!/usr/bin/env bash
+# Layout, warnings, documentation and tests of the crate linefeijoa, without a network; everything is built below target/.
+# usage: run.sh
+# LF_LIBRARY is a folder with another libexports.a; else the proved one is built.
+set -euo pipefail
+here=$(cd "$(dirname "${BASH_SOURCE[0]}")" && pwd)
+root=$(cd "$here/../.." && pwd)
+if [ -z "${LF_LIBRARY:-}" ]; then
+  (cd "$root" && rt staticlib exports)
+fi
+LF_LIBRARY=$(cd "${LF_LIBRARY:-$root/target/staticlib}" && pwd)
+export LF_LIBRARY
+export CARGO_TARGET_DIR=${CARGO_TARGET_DIR:-$root/target/bindings}
+cd "$here"
+cargo fmt --check
+if cargo clippy --version >/dev/null 2>&1; then
+  cargo clippy --quiet --offline -j1 --all-targets -- -D warnings
+fi
+RUSTDOCFLAGS='-D warnings' cargo doc --quiet --offline -j1 --no-deps
+cargo test --quiet --offline -j1
+
+# The example prints document 01's listing and what the desk says.
+cargo run --quiet --offline -j1 --example claim -- 'entails (s z) (at0 z) ft' | diff - <(cat <<'END'
+0 lt.z [] (lt z (s z))
+1 interval.dim [0] (interval (s z) (dim z))
+2 face.0 [1] (face (s z) (at0 z))
+3 face.ft [] (face (s z) ft)
+4 cover.top [] (cover (fc (at0 z) fnil) ft)
+5 entails.checked [2,3,4] (entails (s z) (at0 z) ft)
+yes 5
+passed 6
+END
+)
+
+# Without the library the build says what to do.
+mkdir -p "$CARGO_TARGET_DIR/none"
+if said=$(LF_LIBRARY=$CARGO_TARGET_DIR/none CARGO_TARGET_DIR=$CARGO_TARGET_DIR/none cargo build --offline -j1 2>&1); then
+  echo 'a build without the library passed'
+  exit 1
+fi
+[[ $said = *'no libexports.a in '*'rt staticlib exports'* ]] || { echo "$said"; exit 1; }
+echo 'bindings/rust: layout, documentation, tests and example are in order'
