@@ -1,13 +1,13 @@
 //! The times of the normal form, ours beside the published Rust's, in one run: the slowest faces that were found, and ordinary ones.
 //! usage: normal_times [ROUNDS]
 use compare::normal::expected;
-use compare::normal::library;
 use compare::normal::parts::{LEAVES, both, conjunction, either, nested, one, sum, zero, zeros};
 use compare::normal::worst::worst;
 use judge::formula::{AND, FF, FT, OR, Tree, leaf};
 use judge::ledger::MOST_NODES;
 use judge::random::{Random, Shape, face};
 use judge::session::{fresh, rust_face};
+use linefeijoa::bytes;
 use std::hint::black_box;
 use std::time::{Duration, Instant};
 
@@ -33,7 +33,7 @@ fn least<T>(rounds: usize, mut work: impl FnMut() -> T) -> (Duration, T) {
 /// Both sides must say the same. No list here is over the limit, so that 5 is for the result alone.
 fn time(rounds: usize, name: &str, tree: &Tree) {
     let (bytes, face, mut out) = (tree.bytes(), rust_face(tree), [0; ROOM]);
-    let (ours, answered) = least(rounds, || library::normal(black_box(&bytes), &mut out));
+    let (ours, answered) = least(rounds, || bytes::normal(black_box(&bytes), &mut out));
     let (rust, normal) = least(rounds, || black_box(&face).normal());
     let normal = expected::bytes(&normal);
     let kept = expected::count_nodes(&normal) <= MOST_NODES;

@@ -1,11 +1,11 @@
 //! Pairs of ledgers through our repeat test and through a model of document 01's sentence.
 //! usage: repeats [PAIRS] [SEED]
 use compare::lent::Lent;
-use compare::repeats::library::repeats;
 use compare::repeats::made;
 use compare::repeats::model::{self, End};
 use compare::stack::on_stack;
 use judge::session::fresh;
+use linefeijoa::bytes::repeats;
 use published::{BYTES, FILES, SUM};
 use std::collections::BTreeMap;
 use std::process::ExitCode;

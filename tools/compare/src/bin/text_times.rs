@@ -1,11 +1,11 @@
 //! The times of reading and writing faces of 511 nodes and of listings, ours beside plain Rust for the same, in one run.
 //! usage: text_times [ROUNDS]
 use compare::listings::made::longest_listing;
-use compare::listings::{self, facesteps, printer};
-use compare::texts::library::formula;
+use compare::listings::{facesteps, printer};
 use compare::texts::model;
 use judge::formula::{FF, FT, HEADS, Sort, has_dimension, part_count, read_whole};
 use judge::session::{fresh, rust_face};
+use linefeijoa::bytes;
 use published::cubical::engine::face_frontend::FaceProducer;
 use std::hint::black_box;
 use std::time::Instant;
@@ -193,21 +193,21 @@ fn tell(what: &str, name: &str, length: usize, ours: f64, rust: f64) {
 
 fn time_reading(rounds: usize, name: &str, text: &[u8], face: &[u8]) {
     let (mut a, mut b) = ([0; 1024], [0; 1024]);
-    assert_eq!(formula(Sort::Face, text, &mut a), face.len() as i64);
+    assert_eq!(bytes::read_face(text, &mut a), face.len() as i64);
     assert_eq!(plain_read(text, &mut b), face.len() as i64);
     assert!(a == b && a.starts_with(face));
     let rust = least(rounds, || {
         black_box(plain_read(black_box(text), &mut b));
     });
     let ours = least(rounds, || {
-        black_box(formula(Sort::Face, black_box(text), &mut a));
+        black_box(bytes::read_face(black_box(text), &mut a));
     });
     tell("reading", name, text.len(), ours, rust);
 }
 
 fn time_writing(rounds: usize, name: &str, text: &[u8], face: &[u8]) {
     let (mut a, mut b) = (vec![0; text.len()], vec![]);
-    assert_eq!(listings::library::formula(Sort::Face, face, &mut a), text.len() as i64);
+    assert_eq!(bytes::write_face(face, &mut a), text.len() as i64);
     assert_eq!(plain_write(face, &mut b), Some(&[][..]));
     assert!(a == text && b == text);
     let rust = least(rounds, || {
@@ -215,7 +215,7 @@ fn time_writing(rounds: usize, name: &str, text: &[u8], face: &[u8]) {
         black_box(plain_write(black_box(face), &mut b));
     });
     let ours = least(rounds, || {
-        black_box(listings::library::formula(Sort::Face, black_box(face), &mut a));
+        black_box(bytes::write_face(black_box(face), &mut a));
     });
     tell("writing", name, text.len(), ours, rust);
 }
@@ -224,14 +224,14 @@ fn time_listing(rounds: usize, name: &str, input: &[u8]) {
     let mut b = vec![];
     plain_facesteps(input, &mut b);
     let mut a = vec![0; b.len()];
-    assert_eq!(listings::library::facesteps(input, &mut a), b.len() as i64);
+    assert_eq!(bytes::facesteps(input, &mut a), b.len() as i64);
     assert!(a == b);
     let rust = least(rounds, || {
         b.clear();
         plain_facesteps(black_box(input), &mut b);
     });
     let ours = least(rounds, || {
-        black_box(listings::library::facesteps(black_box(input), &mut a));
+        black_box(bytes::facesteps(black_box(input), &mut a));
     });
     tell("listing", name, a.len(), ours, rust);
 }

@@ -1,12 +1,13 @@
 //! Texts through our readers and through a model of document 01.
 //! usage: texts [TEXTS] [SEED]
 use compare::lent::Lent;
+use compare::library;
 use compare::outputs::{self, Said};
 use compare::stack::on_stack;
-use compare::texts::library::{claim, formula};
 use compare::texts::{made, model};
 use judge::formula::Sort;
 use judge::random::Random;
+use linefeijoa::bytes::read_claim;
 use std::collections::BTreeMap;
 use std::process::ExitCode;
 
@@ -46,14 +47,14 @@ impl Tally {
     fn formula(&mut self, random: &mut Random, sort: Sort, text: &[u8]) {
         let said = outputs::one(model::formula(sort, text));
         let what = if sort == Sort::Face { "face" } else { "interval" };
-        self.read(random, what, text, &said, |text, out| formula(sort, text, out[0].slice()), 1);
+        self.read(random, what, text, &said, |text, out| library::read(sort, text, out[0].slice()), 1);
     }
     fn claim(&mut self, random: &mut Random, text: &[u8]) {
         let packed = |d: usize, a: &[u8], b: &[u8]| d as i64 + ((a.len() as i64) << 16) + ((b.len() as i64) << 32);
         let said = model::claim(text).map(|(d, a, b)| (packed(d, &a, &b), vec![a, b]));
         let read = |text: &[u8], out: &mut [Lent]| {
             let (a, b) = out.split_at_mut(1);
-            claim(text, a[0].slice(), b[0].slice())
+            read_claim(text, a[0].slice(), b[0].slice())
         };
         self.read(random, "claim", text, &said, read, 2);
     }

@@ -1,11 +1,11 @@
 //! Our writers and `facesteps` asked, with outputs of several lengths, beside what they should write.
 use crate::lent::Lent;
+use crate::library::{read, write};
 use crate::listings::ledgers::Ledger;
-use crate::listings::library;
 use crate::outputs::{self, Said, one};
-use crate::texts;
 use judge::formula::Sort;
 use judge::random::Random;
+use linefeijoa::bytes;
 
 /// Outputs of exactly the length, and of another: mostly one byte less, else more, less or none.
 pub fn rooms(random: &mut Random, needed: usize) -> [usize; 2] {
@@ -35,15 +35,15 @@ pub fn each(said: &Said, rooms: &[usize], input: &[u8], call: impl Fn(&[u8], &mu
 
 /// `lf_facesteps` of an input for which this is printed.
 pub fn facesteps(input: &[u8], said: &Said, rooms: &[usize]) -> Result<(), String> {
-    each(said, rooms, input, library::facesteps)
+    each(said, rooms, input, bytes::facesteps)
 }
 
 /// `lf_write_face` or `lf_write_interval`; what was written is read back.
 pub fn formula(sort: Sort, operand: &[u8], said: &Said, rooms: &[usize]) -> Result<(), String> {
-    each(said, rooms, operand, |operand, out| library::formula(sort, operand, out))?;
+    each(said, rooms, operand, |operand, out| write(sort, operand, out))?;
     if let Ok((_, texts)) = said {
         let back = one(Ok(operand.to_vec()));
-        let read = each(&back, &[operand.len()], &texts[0], |text, out| texts::library::formula(sort, text, out));
+        let read = each(&back, &[operand.len()], &texts[0], |text, out| read(sort, text, out));
         read.map_err(|difference| format!("read back: {difference}"))?;
     }
     Ok(())
@@ -51,13 +51,13 @@ pub fn formula(sort: Sort, operand: &[u8], said: &Said, rooms: &[usize]) -> Resu
 
 /// `lf_write_step` of one step.
 pub fn step(ledger: &Ledger, step: u64, said: &Said, rooms: &[usize]) -> Result<(), String> {
-    each(said, rooms, &ledger.bytes, |bytes, out| library::step(bytes, step, out))
+    each(said, rooms, &ledger.bytes, |lent, out| bytes::write_step(lent, step, out))
 }
 
 /// The first line that our `facesteps` prints otherwise.
 pub fn first_other_line(input: &[u8], printed: &[u8]) -> String {
     let mut out = vec![0; printed.len() + (1 << 16)];
-    let answered = library::facesteps(input, &mut out);
+    let answered = bytes::facesteps(input, &mut out);
     let Ok(length) = usize::try_from(answered) else { return format!("answered {answered}") };
     let ours = &out[..length.min(out.len())];
     let mut pairs = ours.split(|b| *b == b'\n').zip(printed.split(|b| *b == b'\n'));

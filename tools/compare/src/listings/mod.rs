@@ -1,9 +1,8 @@
-//! Listings: document 01's printer, what `facesteps` prints, lines and ledgers to list, and our writers.
+//! Listings: document 01's printer, what `facesteps` prints, and lines and ledgers to list.
 pub mod asked;
 pub mod comparison;
 pub mod facesteps;
 pub mod ledgers;
-pub mod library;
 pub mod made;
 pub mod printer;
 pub mod smaller;

@@ -1,9 +1,9 @@
 //! The questions about one ledger, and about one kind.
 use crate::lent::Lent;
 use crate::listings::ledgers::some_steps;
-use crate::lookups::library;
 use crate::lookups::model::{self, Found};
 use judge::random::Random;
+use linefeijoa::bytes as library;
 use std::collections::{BTreeMap, BTreeSet};
 
 /// The run stops after the batch that has so many.

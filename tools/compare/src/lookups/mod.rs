@@ -1,5 +1,4 @@
-//! Looking steps up: what the oracle's own reader finds in a ledger, the questions, and our functions.
+//! Looking steps up: what the oracle's own reader finds in a ledger, and the questions.
 pub mod asked;
-pub mod library;
 pub mod made;
 pub mod model;

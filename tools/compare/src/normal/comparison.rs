@@ -2,13 +2,13 @@
 use crate::listings::{asked, smaller};
 use crate::normal::copied::MOST_CLAUSES;
 use crate::normal::expected::{CLAUSES, Expected, SHORT, expected};
-use crate::normal::library;
 use crate::outputs::{self, Said};
 use crate::stack::on_stack;
 use judge::formula::Sort;
 use judge::ledger::MOST_NODES;
 use judge::random::Random;
 use judge::session::fresh;
+use linefeijoa::bytes::normal;
 use std::collections::BTreeMap;
 
 /// The stack that our library runs in.
@@ -57,7 +57,7 @@ fn some_rooms(random: &mut Random, said: &Said) -> Vec<usize> {
 }
 
 fn ask(operand: &[u8], said: &Said, rooms: &[usize]) -> Result<(), String> {
-    asked::each(said, rooms, operand, library::normal)
+    asked::each(said, rooms, operand, normal)
 }
 
 /// Both sides anew.

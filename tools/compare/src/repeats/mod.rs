@@ -1,4 +1,3 @@
-//! The repeat test: document 01's sentence as a model, ledgers to compare in pairs, and our function.
-pub mod library;
+//! The repeat test: document 01's sentence as a model, and ledgers to compare in pairs.
 pub mod made;
 pub mod model;

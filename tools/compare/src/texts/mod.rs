@@ -1,4 +1,3 @@
-//! Texts: a model of the reader, texts to read, and our readers.
-pub mod library;
+//! Texts: a model of the reader, and texts to read.
 pub mod made;
 pub mod model;
