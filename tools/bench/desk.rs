@@ -1,5 +1,6 @@
 // Times lf_step_desk and lf_well_formed on full ledgers whose steps all follow, beside a comparison of as many bytes.
 // usage: desk ROUNDS SAMPLE.., where SAMPLE is a file of the oracle with lines `ledger-is HEX`.
+use linefeijoa::bytes::{step_desk, well_formed};
 use std::hint::black_box;
 use std::time::Instant;
 
@@ -8,12 +9,6 @@ const LEN: usize = 1_048_576;
 // How many references the steps of the kinds 1 to 75 have.
 const REFERENCES: &[u8; 75] =
     b"010100112200112201010112232113000122330001101122001112200101122001122002222";
-
-// A slice is a pointer and a length.
-extern "C" {
-    fn lf_well_formed(ledger: *const u8, len: usize) -> i64;
-    fn lf_step_desk(ledger: *const u8, len: usize) -> i64;
-}
 
 fn number(bytes: &[u8]) -> usize {
     bytes.iter().rev().fold(0, |n, b| 256 * n + *b as usize)
@@ -87,12 +82,8 @@ fn main() {
         let (mut desk, mut check, mut plain) = (Vec::new(), Vec::new(), Vec::new());
         for _ in 0..rounds {
             let l = black_box(&ledger);
-            desk.push(micros(|| {
-                assert_eq!(unsafe { lf_step_desk(l.as_ptr(), LEN) }, n, "{name}")
-            }));
-            check.push(micros(|| {
-                assert_eq!(unsafe { lf_well_formed(l.as_ptr(), LEN) }, n, "{name}")
-            }));
+            desk.push(micros(|| assert_eq!(step_desk(l), n, "{name}")));
+            check.push(micros(|| assert_eq!(well_formed(l), n, "{name}")));
             plain.push(micros(|| assert!(l[..] == black_box(&copy)[..])));
         }
         println!("{name}, {n} steps");

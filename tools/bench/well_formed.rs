@@ -1,18 +1,10 @@
 // Times lf_well_formed on ledgers of 1,048,576 bytes beside a comparison of as many bytes.
 // usage: well_formed SAMPLE ROUNDS, where SAMPLE is a file of the oracle with lines `ledger-is HEX`.
+use linefeijoa::bytes::well_formed;
 use std::hint::black_box;
 use std::time::Instant;
 
 const LEN: usize = 1_048_576;
-
-// A slice is a pointer and a length.
-extern "C" {
-    fn lf_well_formed(ledger: *const u8, len: usize) -> i64;
-}
-
-fn steps(ledger: &[u8]) -> i64 {
-    unsafe { lf_well_formed(ledger.as_ptr(), ledger.len()) }
-}
 
 fn number(bytes: &[u8]) -> usize {
     bytes.iter().rev().fold(0, |n, b| 256 * n + *b as usize)
@@ -75,7 +67,7 @@ fn compare(label: &str, ledger: &[u8], want: i64, rounds: usize) {
     let (mut ours, mut plain) = (Vec::new(), Vec::new());
     for _ in 0..rounds {
         ours.push(micros(|| {
-            assert_eq!(steps(black_box(ledger)), want, "{label}")
+            assert_eq!(well_formed(black_box(ledger)), want, "{label}")
         }));
         plain.push(micros(|| {
             assert!(black_box(ledger) == black_box(&copy[..]))
@@ -107,5 +99,5 @@ fn main() {
     zeros.fill(0);
     compare("all zeros", &zeros, 0, rounds);
     compare("full", &ledger, n, rounds);
-    assert_eq!(steps(&[0; LEN + 1]), -1, "refusal 1");
+    assert_eq!(well_formed(&[0; LEN + 1]), -1, "refusal 1");
 }
