@@ -220,7 +220,7 @@ int64_t lf_facesteps(const uint8_t *input, size_t input_len, uint8_t *out, size_
 
 /* The refusal's number, 1 to 11, or 0 where the answer is none: any function's. */
 static inline int lf_refusal_of(int64_t answer) {
-    return answer < 0 ? (int)(-answer & 15) : 0;
+    return answer < 0 ? (int)((0 - (uint64_t)answer) & 15) : 0;
 }
 
 /* What a refusal's number means; the empty text for another number. */
@@ -254,7 +254,7 @@ static inline const char *lf_refusal_meaning(int refusal) {
     }
 }
 
-/* Of a call, lf_face to lf_entails: the number of the step with its judgement; 0 where it is refused. */
+/* Of a call, lf_face to lf_entails, that is not refused: the number of the step with its judgement. Else 0. */
 static inline uint32_t lf_step_of(int64_t answer) {
     return answer < 0 ? 0 : (uint32_t)(answer & 0xffffffff);
 }
@@ -266,7 +266,7 @@ static inline size_t lf_result_len_of(int64_t answer) {
 
 /* Of lf_step_desk, where it is refused by 10: the lowest step that does not follow; else 0. */
 static inline uint32_t lf_failing_step_of(int64_t answer) {
-    return lf_refusal_of(answer) == LF_DOES_NOT_FOLLOW ? (uint32_t)(-answer >> 4) : 0;
+    return lf_refusal_of(answer) == LF_DOES_NOT_FOLLOW ? (uint32_t)((0 - (uint64_t)answer) >> 4) : 0;
 }
 
 /* Of lf_read_claim: d; 0 where it is refused. */

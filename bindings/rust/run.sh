@@ -19,7 +19,8 @@ fi
 RUSTDOCFLAGS='-D warnings' cargo doc --quiet --offline -j1 --no-deps
 cargo test --quiet --offline -j1
 
-# The example prints document 01's listing and what the desk says.
+[ "$(cargo run --quiet --offline -j1 --example first | tail -1)" = 'yes 5, passed 6' ]
+# The other example prints document 01's listing and what the desk says.
 cargo run --quiet --offline -j1 --example claim -- 'entails (s z) (at0 z) ft' | diff - <(cat <<'END'
 0 lt.z [] (lt z (s z))
 1 interval.dim [0] (interval (s z) (dim z))

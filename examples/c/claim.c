@@ -78,13 +78,13 @@ int main(int count, char **words) {
     if (answer < 0)
         printf("refused %d: %s\n", lf_refusal_of(answer), lf_refusal_meaning(lf_refusal_of(answer)));
     else
-        printf("yes %lu\n", (unsigned long)lf_step_of(answer));
+        printf("yes %u\n", lf_step_of(answer));
 
     desk = lf_step_desk(l.bytes, l.len);
     if (desk < 0)
-        printf("refused %d at %lu\n", lf_refusal_of(desk), (unsigned long)lf_failing_step_of(desk));
+        printf("refused %d at %u\n", lf_refusal_of(desk), lf_failing_step_of(desk));
     else
-        printf("passed %lu\n", (unsigned long)desk);
+        printf("passed %d\n", (int)desk);
     free(l.bytes);
     return answer < 0;
 }

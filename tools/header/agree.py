@@ -1,4 +1,5 @@
-"""Compares include/linefeijoa.h, bindings/rust and docs/REFUSALS.md with the exported functions and with each other.
+"""Compares include/linefeijoa.h, bindings/rust and docs/REFUSALS.md with the exported functions and with each other; and
+the examples that README.md quotes.
 
 usage: agree.py SEEN SYMBOLS     what the check printed, and the archive's symbols by `nm -g --defined-only`
 """
@@ -122,6 +123,14 @@ def words_in_rust(source):
     return documented, said
 
 
+def quoted(path):
+    """An example that README.md begins to quote is quoted to its end."""
+    lines, told = read(path).splitlines(), [line.removeprefix("    ") for line in read("README.md").splitlines()]
+    for i in (i for i, line in enumerate(told) if line == lines[0]):
+        if told[i : i + len(lines)] != lines:
+            problems.append(f"README.md quotes {path} otherwise")
+
+
 def main():
     seen, symbols = (Path(name).read_text().splitlines() for name in sys.argv[1:3])
     header = read("include/linefeijoa.h")
@@ -147,6 +156,9 @@ def main():
     limits = dict(re.findall(r"^#define LF_(\w+) (\d+)", header, flags=re.M))
     consts = re.findall(r"^pub const (\w+): \w+ = ([\d_]+);", read("bindings/rust/src/limits.rs"), flags=re.M)
     same("limits in Rust", {name: number.replace("_", "") for name, number in consts}, limits)
+
+    for path in ["examples/c/first.c", "bindings/rust/examples/first.rs"]:
+        quoted(path)
 
     for problem in problems:
         print(problem)

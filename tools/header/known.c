@@ -106,8 +106,11 @@ static void entailments(struct tally *t) {
     ASK(t, lf_step_desk(l.bytes, l.len), 1);
     memset(l.bytes, 0, l.len);
     ASK(t, lf_entails(l.bytes, l.len, 0, N(ff), N(ff)), 3);
-    /* One buffer as both operands. */
+    /* One buffer as both operands, and an operand that is a part of the other. */
     ASK(t, lf_entails(l.bytes, l.len, 0, N(ff), N(ff)), 3);
+    memset(l.bytes, 0, l.len);
+    ASK(t, lf_entails(l.bytes, l.len, 1, either + 1, sizeof at0, N(either)), 8);
+    ASK(t, lf_step_desk(l.bytes, l.len), 9);
     lent_free(&l);
 }
 

@@ -33,7 +33,9 @@ tail -2 "$built/seen-c++"
 nm -g --defined-only "$library/libexports.a" >"$built/symbols"
 python3 tools/header/agree.py "$built/seen" "$built/symbols"
 
-# The example: document 01's listing and what the desk says; a claim whose ledger has to grow; refusals.
+# The first example, and the second: document 01's listing and what the desk says; a claim whose ledger has to grow; refusals.
+gcc -std=c99 "${strict[@]}" -o "$built/first" examples/c/first.c -L "$library" -lexports
+[ "$("$built/first")" = 'yes 5, passed 6' ]
 gcc -std=c99 "${strict[@]}" -o "$built/claim" examples/c/claim.c -L "$library" -lexports
 "$built/claim" 'entails (s z) (at0 z) ft' | diff - <(cat <<'END'
 0 lt.z [] (lt z (s z))
@@ -65,4 +67,4 @@ for refused in '8 entails z ff (at0 z)' '9 entails (s z) ft (for (at0 z) (at1 z)
   said=$("$built/claim" "${refused#* }") || status=$?
   [[ $status = 1 && $said = *"refused ${refused%% *}: "* ]] || { echo "claim '${refused#* }': $said"; exit 1; }
 done
-echo 'the example in C prints what it should'
+echo 'the examples in C print what they should'
