@@ -10,6 +10,7 @@
  *  - A slice of length 0 may be NULL; every function takes every length and content.
  *  - Slices must not overlap, but for those that are only read (const): one buffer may be both operands of a call,
  *    or both ledgers of lf_repeats. An operand that stands in the ledger is copied before a call on that ledger.
+ *  - A function that is lent a ledger reads all of it, zeros included: small ledgers are answered faster.
  *  - Calls keep no state. Threads may call at once, each on slices that no other thread writes meanwhile.
  *  - A call takes at most 1.95 MB of stack (measured, not proved: docs/BENCHMARK.md), so a thread needs
  *    LF_STACK_BYTES. Each page of a frame is touched in turn, so too small a stack ends at its guard page.

@@ -6,8 +6,9 @@ use std::str::FromStr;
 
 /// A face: `ff`, `ft`, `(at0 n)`, `(at1 n)`, `(fand a b)`, `(for a b)`, within document 01's limits.
 ///
-/// It owns its prefix bytes, and always holds exactly one face of at most 511 nodes with dimensions up to 254. Two are
-/// equal where their bytes are; faces that hold at the same assignments have one [`normal`](Self::normal) form.
+/// It owns its prefix bytes, and always holds exactly one face of at most 511 nodes with dimensions up to 254. Faces are
+/// equal, and ordered, as their bytes are; those that hold at the same assignments have one [`normal`](Self::normal)
+/// form.
 ///
 /// ```
 /// use linefeijoa::{Face, Refusal};

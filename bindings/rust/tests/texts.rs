@@ -23,6 +23,10 @@ fn spellings() {
     assert_eq!(format!("{:>4}|{:<4}", Face::ff(), Face::ft()), "  ff|ft  ");
     assert_eq!(Face::try_from(&[5, 0, 1][..]).map(Vec::from), Ok(vec![5, 0, 1]));
     assert_eq!(Interval::try_from(vec![16]).map(Interval::into_bytes), Ok(vec![16]));
+    assert_eq!((Face::ft().as_ref(), Interval::i1().as_ref()), (&[1][..], &[17][..]));
+    let claim = Claim::from_text(b" entails\n(z) ft ff").unwrap();
+    assert_eq!(claim, Claim { d: 0, a: Face::ft(), b: Face::ff() });
+    assert_eq!((claim.to_string(), format!("{claim:>16}")), ("entails z ft ff".into(), " entails z ft ff".into()));
 }
 
 /// Buffers grow to what is needed.
