@@ -1,5 +1,6 @@
 #!/usr/bin/env python3
-"""Holds docs/FORMATS.md against the crates: the bytes of formulas, the predicates, the 75 rules, the refusals, the C functions.
+"""Holds docs/FORMATS.md against the crates: the bytes of formulas, the predicates, the 75 rules, the refusals, the C functions;
+and the refusals of README.md against docs/REFUSALS.md, word for word.
 
     python3 tools/formats/check.py            the tables against crates/, the worked examples against the tables
     python3 tools/formats/check.py --call     and the C program of the document, built with gcc and run (after `rt staticlib exports`)
@@ -226,9 +227,18 @@ def rules(operands, ranges):
     return {kind: (name, len(premises), judgement[0]) for kind, (name, premises, judgement) in found.items()}
 
 
+def numbered(text):
+    """Number, meaning and what to do, of the lines of a table that begin with a number."""
+    lines = [[cell.strip() for cell in line.strip("|").split("|")] for line in re.findall(r"^\| \d+ \|.*$", text, re.M)]
+    return [(line[0], *line[-2:]) for line in lines]
+
+
 def refusals():
     theirs = sorted(int(n) for n in re.findall(r"^number .* = (\d+)$", crate("calculus/specs/Refusal.antt"), re.M))
     same("refusals", [int(row[0]) for row in rows("Refusals", 4) if row[0].isdigit()], theirs)
+    readme = (ROOT / "README.md").read_text(encoding="utf-8").split("\nAll refusals")[1].split("\n## ")[0]
+    words = ROOT / "docs/REFUSALS.md"
+    same("refusals of README.md and docs/REFUSALS.md", numbered(readme), numbered(words.read_text(encoding="utf-8")) if words.exists() else [])
 
 
 def functions():
