@@ -1,4 +1,4 @@
--- Examples by computation: the calls on bytes. The listing and the marked examples of document 01, each refusal, the order of the questions, and what a failing call leaves.
+-- Examples by computation: the calls on bytes. The listing of document 01, each refusal, the order of the questions, and what a failing call leaves.
 use mathlib.Core.Path.{_≡_, refl}
 use mathlib.Core.Bool.{decide}
 use mathlib.Core.Option.{Option, none, some}
@@ -21,9 +21,8 @@ use Rattle.calculus.specs.Emit
 use Rattle.calculus.specs.Emit.{done, unbounded, run}
 use Rattle.calculus.specs.Calls
 use Rattle.calculus.specs.Calls.{emitEntails}
-use Rattle.refusals.specs.declared.Refusal.{Refusal}
 use Rattle.refusals.specs.declared.Refusal.the-variants.{IllFormedLedger, NotAFormula, TooManyNodes, LargeDimension, LargeResult, ShortOutput, FullLedger, NotBelow, NotImplied}
-use Rattle.calculus.specs.Door.{Call, face, interval, boundary, forall, shift, substitute, entails, _>>=_, taskOf, outputsOf, Answer, answered, refused, Reply, refuse, firstNo, questions, reply}
+use Rattle.calculus.specs.Door.{Call, face, interval, shift, entails, Answer, answered, refused, Reply, refuse, reply}
 use Rattle.calculus.specs.Demand.{empty}
 
 -- To unfold this is to unfold the model.
@@ -65,50 +64,6 @@ listings-as : listings
 unfolding listings listed listing model
 listings-as = refl
 
--- The marked examples ---------------------------------------------------------------------------
-
--- The answers of these calls on an empty ledger.
-answers : List Call → List Answer
-answers cs = map (λ (c : Call). (reply c (empty 800)) .answer) cs
-
--- 0 fand (1 for 1') entails (0 fand 1) for (0 fand 1'); 0 fand 0' entails ff; ft entails 0 for 0'; ff entails 0; ff entails ff.
-marked : List Answer
-marked =
-    answers (
-    entails 2 (4 ∷ 2 ∷ 0 ∷ 5 ∷ 2 ∷ 1 ∷ 3 ∷ 1 ∷ []) (5 ∷ 4 ∷ 2 ∷ 0 ∷ 2 ∷ 1 ∷ 4 ∷ 2 ∷ 0 ∷ 3 ∷ 1 ∷ []) ∷
-    entails 1 (4 ∷ 2 ∷ 0 ∷ 3 ∷ 0 ∷ []) (0 ∷ []) ∷
-    entails 1 (1 ∷ []) (5 ∷ 2 ∷ 0 ∷ 3 ∷ 0 ∷ []) ∷
-    entails 0 (0 ∷ []) (2 ∷ 0 ∷ []) ∷
-    entails 0 (0 ∷ []) (0 ∷ []) ∷
-    []
-    )
-
-marked-as : marked ≡ answered 31 [] ∷ answered 12 [] ∷ refused NotImplied ∷ refused NotBelow ∷ answered 3 [] ∷ []
-unfolding marked answers model
-marked-as = refl
-
--- forall 1 of 0 for (1' fand 2); boundary of meet (dim 0) (neg (dim 0)); shift at 1 of 1 and of 0; substitute join (dim 3) i0 for 0 in 0'. Output bytes past the result stay 7.
-results : List (List (List ℕ))
-results =
-    map (λ (c : Call). (reply c (empty 800)) .outputs) (
-    forall (5 ∷ 2 ∷ 0 ∷ 4 ∷ 3 ∷ 1 ∷ 2 ∷ 2 ∷ []) 1 (replicate 9 7) ∷
-    boundary (20 ∷ 18 ∷ 0 ∷ 19 ∷ 18 ∷ 0 ∷ []) (replicate 6 7) (replicate 5 7) ∷
-    shift Faces (2 ∷ 1 ∷ []) 1 (replicate 2 7) ∷
-    shift Faces (2 ∷ 0 ∷ []) 1 (replicate 2 7) ∷
-    substitute Faces (3 ∷ 0 ∷ []) 0 (21 ∷ 18 ∷ 3 ∷ 16 ∷ []) (replicate 5 7) ∷
-    []
-    )
-
-results-as : results
-    ≡ ((5 ∷ 2 ∷ 0 ∷ 4 ∷ 0 ∷ 2 ∷ 1 ∷ 7 ∷ 7 ∷ []) ∷ [])
-    ∷ ((5 ∷ 2 ∷ 0 ∷ 3 ∷ 0 ∷ 7 ∷ []) ∷ (4 ∷ 3 ∷ 0 ∷ 2 ∷ 0 ∷ []) ∷ [])
-    ∷ ((2 ∷ 2 ∷ []) ∷ [])
-    ∷ ((2 ∷ 0 ∷ []) ∷ [])
-    ∷ ((5 ∷ 3 ∷ 3 ∷ 0 ∷ 7 ∷ []) ∷ [])
-    ∷ []
-unfolding results model
-results-as = refl
-
 -- Refusals ----------------------------------------------------------------------------------------
 
 -- An interval of 512 nodes, a face of 513.
@@ -148,17 +103,6 @@ refusals-as : refusals
     )
 unfolding refusals long-interval long-face model
 refusals-as = refl
-
--- Questions 3 to 6 of a call: an interval of 511 nodes passes, of 512 gives 3.
-asked : Call → Option Refusal
-asked c = taskOf c >>= (λ t. firstNo (questions t (outputsOf c)))
-
-node-limit : List (Option Refusal)
-node-limit = asked (interval 0 (replicate 510 19 ++ 16 ∷ [])) ∷ asked (interval 0 long-interval) ∷ []
-
-node-limit-as : node-limit ≡ none ∷ some TooManyNodes ∷ []
-unfolding node-limit asked long-interval model
-node-limit-as = refl
 
 -- A refusal by 1 to 7 leaves every byte, one by 8 or 9 its steps: here face.ft, and for 9 face.ff too.
 leavings : List Reply

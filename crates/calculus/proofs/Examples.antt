@@ -1,15 +1,14 @@
--- Examples by computation: the bytes of a name, the order of the tries, the marked entailments of document 01, and the desk on its listing.
+-- Examples by computation: the bytes of a name, the order of the tries, and the desk on document 01's listing.
 use mathlib.Core.Path.{_≡_, refl}
-use mathlib.Core.Bool.{Bool, true, false, decide}
+use mathlib.Core.Bool.{decide}
 use mathlib.Core.List.{List, [], _∷_}
 use Prim.Native.Nat.{ℕ}
 use native.Mathlib.Decide.{ℕ-discrete, decLt, decLe}
 use Rattle.formula.specs.Formula.{lo, hi, ff, ft, at, fand, for, dim}
-use Rattle.formula.specs.Bytes.{nodesFace}
 use Rattle.calculus.specs.Judgement.{lt, interval, face, cover, entails, Step, sameList, sameFace, sameJudgement}
 use Rattle.calculus.specs.Table.{textBytes}
 use Rattle.calculus.specs.Rules.{Verdict, pass, fail}
-use Rattle.calculus.specs.Search.{Move, by-top, by-hit, by-absurd, by-clash, by-and-left, by-or-left, by-and-right, by-or-right, stuck, has, tryClash, tryLeft, move, searchIn, nodesContext, search}
+use Rattle.calculus.specs.Search.{Move, by-top, by-hit, by-absurd, by-clash, by-and-left, by-or-left, by-and-right, by-or-right, stuck, has, tryClash, tryLeft, move}
 use Rattle.calculus.proofs.Rows.{rows, guess, rule?}
 use Rattle.calculus.proofs.Desk.{below?, follows?, judgeFrom, judge, desk}
 
@@ -46,22 +45,6 @@ in-order : moves
     ∷ []
 unfolding moves move has decide sameFace ℕ-discrete tryClash tryLeft
 in-order = refl
-
--- The marked entailments ----------------------------------------------------------------
-
--- 0 fand (1 for 1') entails (0 fand 1) for (0 fand 1'); 0 fand 0' entails ff; not ft entails 0 for 0'; ff entails 0; ff entails ff.
-marked : List Bool
-marked =
-    search (fand (at lo 0) (for (at lo 1) (at hi 1)) ∷ []) (for (fand (at lo 0) (at lo 1)) (fand (at lo 0) (at hi 1))) ∷
-    search (fand (at lo 0) (at hi 0) ∷ []) ff ∷
-    search (ft ∷ []) (for (at lo 0) (at hi 0)) ∷
-    search (ff ∷ []) (at lo 0) ∷
-    search (ff ∷ []) ff ∷
-    []
-
-marked-verdicts : marked ≡ true ∷ true ∷ false ∷ true ∷ true ∷ []
-unfolding marked search searchIn nodesContext nodesFace move has decide sameFace ℕ-discrete tryClash tryLeft
-marked-verdicts = refl
 
 -- The desk ------------------------------------------------------------------------------
 

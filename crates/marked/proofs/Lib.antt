@@ -1,0 +1,5 @@
+pub mod Replying
+pub mod Steady
+pub mod Sizes
+pub mod Reaching
+pub mod Marked
