@@ -234,7 +234,7 @@ def numbered(text):
 
 
 def refusals():
-    theirs = sorted(int(n) for n in re.findall(r"^number .* = (\d+)$", crate("calculus/specs/Refusal.antt"), re.M))
+    theirs = sorted(int(n) for n in re.findall(r"^number .* = (\d+)$", crate("refusals/specs/Refusals.antt"), re.M))
     same("refusals", [int(row[0]) for row in rows("Refusals", 4) if row[0].isdigit()], theirs)
     readme = (ROOT / "README.md").read_text(encoding="utf-8").split("\nAll refusals")[1].split("\n## ")[0]
     words = ROOT / "docs/REFUSALS.md"
