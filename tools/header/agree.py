@@ -124,11 +124,13 @@ def words_in_rust(source):
 
 
 def quoted(path):
-    """An example that README.md begins to quote is quoted to its end."""
-    lines, told = read(path).splitlines(), [line.removeprefix("    ") for line in read("README.md").splitlines()]
-    for i in (i for i, line in enumerate(told) if line == lines[0]):
-        if told[i : i + len(lines)] != lines:
-            problems.append(f"README.md quotes {path} otherwise")
+    """An example that README.md begins to quote, in a fence or indented, is quoted to its end."""
+    lines, told = read(path).splitlines(), read("README.md").splitlines()
+    indented = [f"    {line}" if line else line for line in lines]
+    for way in (lines, indented):
+        for i in (i for i, line in enumerate(told) if line == way[0]):
+            if told[i : i + len(way)] != way:
+                problems.append(f"README.md quotes {path} otherwise")
 
 
 def main():
