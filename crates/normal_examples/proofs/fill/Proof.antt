@@ -1,7 +1,5 @@
 use Rattle.normal_examples.proofs.fill.Statement.{statement}
 use Rattle.normal_examples.proofs.fill.Tie as tie
-use Rattle.normal_examples.proofs.fill.Reads as reads
-use Rattle.normal_examples.proofs.fill.Lts as lts
 use Prim.Native.Nat.{_-_}
 use native.Mathlib.Omega.{arith}
 use mathlib.Core.Path.{_≡_, refl, _∙_}

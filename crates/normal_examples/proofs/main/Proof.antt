@@ -1,9 +1,5 @@
 use Rattle.normal_examples.proofs.main.Statement.{statement}
 use Rattle.normal_examples.proofs.main.Tie as tie
-use Rattle.normal_examples.proofs.main.Reads as reads
-use Rattle.normal_examples.proofs.main.Lts as lts
-use Rattle.normal_examples.proofs.case.Reads as case-reads
-use Rattle.stdio.proofs.read_number.Reads as read-number-reads
 use native.Mathlib.Omega.{arith}
 
 abbrev Inv-loop : tie.InvT-loop

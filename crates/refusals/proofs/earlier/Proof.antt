@@ -1,28 +1,21 @@
 use borrow.Author.Needs.{needs}
 use Rattle.refusals.proofs.earlier.Statement.{statement}
 use Rattle.refusals.proofs.earlier.Tie as tie
-use Rattle.refusals.proofs.earlier.Reads as reads
-use Rattle.refusals.proofs.earlier.Lts as lts
-use Rattle.refusals.proofs.number.Reads as number-reads
 use borrow.Author.Tests.{le-leb, lt-leb}
 use mathlib.Core.Path.{sym, ap, _∙_}
 use mathlib.Core.Bool.{Bool}
 use native.Mathlib.Omega.{arith}
 use Rattle.refusals.specs.Refusals.{number, firstIf}
 
--- src/lib.rt:43:8
 number-requires : tie.Need-number-requires
 number-requires c κs = search needs
 
--- src/lib.rt:43:21
 number-requires-2 : tie.Need-number-requires-2
 number-requires-2 c κs = search needs
 
--- src/lib.rt:44:9
 returns : tie.Need-returns
 returns c = let a = c .before .before .before .args in sym (ap (λ (b : Bool). firstIf b (a .e) (a .q)) (le-leb (number (a .e)) (number (a .q)) (omega (arith, c .before .before .number .ensures, c .before .number2 .ensures))))
 
--- src/lib.rt:40:1
 returns-2 : tie.Need-returns-2
 returns-2 c = let a = c .before .before .before .args in sym (ap (λ (b : Bool). firstIf b (a .e) (a .q)) (lt-leb (number (a .e)) (number (a .q)) (omega (arith, c .before .before .number .ensures, c .before .number2 .ensures))))
 

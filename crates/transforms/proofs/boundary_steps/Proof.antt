@@ -1,67 +1,49 @@
 use borrow.Author.Needs.{needs}
 use Rattle.transforms.proofs.boundary_steps.Statement.{statement}
 use Rattle.transforms.proofs.boundary_steps.Tie as tie
-use Rattle.transforms.proofs.boundary_steps.Reads as reads
-use Rattle.transforms.proofs.boundary_steps.Lts as lts
-use Rattle.boundary_steps.proofs.boundary.Reads as boundary-reads
-use Rattle.operations.proofs.boundary.Reads as results-boundary-reads
 use mathlib.Core.Path.{ap, sym}
 use lib.Seq.{length-take-le}
 use Rattle.transforms.proofs.ImageLaws.{room, sides-made, zero-front, one-front, sides-front}
 
--- src/lib.rt:225:35
 slice-aggregate-boundary : tie.Need-slice-aggregate-boundary
 slice-aggregate-boundary c = search needs
 
--- src/lib.rt:225:46
 slice-aggregate-boundary-2 : tie.Need-slice-aggregate-boundary-2
 slice-aggregate-boundary-2 c = search needs
 
--- src/lib.rt:225:11
 boundary-requires : tie.Need-boundary-requires
 boundary-requires c κs = search needs
 
--- src/lib.rt:226:21
 enum-known-z : tie.Need-enum-known-z
 enum-known-z c = search needs
 
--- src/lib.rt:228:21
 array-share-prefix-zero : tie.Need-array-share-prefix-zero
 array-share-prefix-zero c = zero-front (c .before .before .before .before .before .before .before .before .before .before .before .pre .1) room room (c .before .before .before .before .before .boundary .ensures) _ (c .before .z .given .1) .inside
 
--- src/lib.rt:228:17
 slice-aggregate-a : tie.Need-slice-aggregate-a
 slice-aggregate-a c = sym (length-take-le _ _ (zero-front (c .before .before .before .before .before .before .before .before .before .before .before .before .pre .1) room room (c .before .before .before .before .before .before .boundary .ensures) _ (c .before .before .z .given .1) .inside))
 
--- src/lib.rt:229:21
 array-share-prefix-one : tie.Need-array-share-prefix-one
 array-share-prefix-one c = one-front (c .before .before .before .before .before .before .before .before .before .before .before .before .pre .1) room room (c .before .before .before .before .before .before .boundary .ensures) _ (c .before .before .z .given .1) .inside
 
--- src/lib.rt:229:17
 slice-aggregate-b : tie.Need-slice-aggregate-b
 slice-aggregate-b c = sym (length-take-le _ _ (one-front (c .before .before .before .before .before .before .before .before .before .before .before .before .before .pre .1) room room (c .before .before .before .before .before .before .before .boundary .ensures) _ (c .before .before .before .z .given .1) .inside))
 
--- src/lib.rt:230:13
 boundary-requires-2 : tie.Need-boundary-requires-2
 boundary-requires-2 c κs = (c .before .before .before .before .before .before .before .before .before .before .before .before .before .before .before .pre .0, c .before .before .before .before .before .before .before .before .before .before .before .before .before .before .before .pre .1, sides-front (c .before .before .before .before .before .before .before .before .before .before .before .before .before .before .before .pre .1) room room (c .before .before .before .before .before .before .before .before .before .boundary .ensures) _ (c .before .before .before .before .before .z .given .1))
 
--- src/lib.rt:232:30
 enum-told : tie.Need-enum-told
 enum-told c = search needs
 
--- src/lib.rt:219:1
 same-length : tie.Need-same-length
 same-length c = search needs
 
--- src/lib.rt:219:1
 same-length-2 : tie.Need-same-length-2
 same-length-2 c = search needs
 
--- src/lib.rt:219:1
 returns : tie.Need-returns
 returns c = search needs
 
--- src/lib.rt:219:1
 returns-2 : tie.Need-returns-2
 returns-2 c = sides-made (c .before .before .before .before .before .before .before .before .before .before .pre .1) room room (c .before .before .before .before .boundary .ensures) (c .enum-told .given .1)
 

@@ -1,38 +1,28 @@
 use borrow.Author.Needs.{needs}
 use Rattle.transforms.proofs.image.Statement.{statement}
 use Rattle.transforms.proofs.image.Tie as tie
-use Rattle.transforms.proofs.image.Reads as reads
-use Rattle.transforms.proofs.image.Lts as lts
-use Rattle.operations.proofs.transform.Reads as transform-reads
 use mathlib.Core.Path.{ap}
 use Rattle.formula.specs.declared.Sort.the-variants.{Intervals}
 use Rattle.transforms.proofs.ImageLaws.{image-made, image-front}
 
--- src/lib.rt:212:11
 transform-requires : tie.Need-transform-requires
 transform-requires c κs = search needs
 
--- src/lib.rt:213:21
 enum-known-z : tie.Need-enum-known-z
 enum-known-z c = search needs
 
--- src/lib.rt:214:30
 enum-told : tie.Need-enum-told
 enum-told c = search needs
 
--- src/lib.rt:208:1
 same-length : tie.Need-same-length
 same-length c = search needs
 
--- src/lib.rt:208:1
 returns : tie.Need-returns
 returns c = let a = c .before .before .before .before .before .before .before .before .before .before .args in image-front Intervals (a .op) (a .t .now) (c .before .before .before .before .before .before .before .before .before .before .pre .0) (c .before .before .before .before .before .before .before .before .before .before .pre .1) (c .before .before .before .before .before .before .before .before .before .before .pre .2) (c .before .before .before .before .before .before .before .before .before .before .pre .3) (c .before .before .before .before .before .transform .ensures) _ (c .before .z .given .1)
 
--- src/lib.rt:208:1
 same-length-2 : tie.Need-same-length-2
 same-length-2 c = search needs
 
--- src/lib.rt:208:1
 returns-2 : tie.Need-returns-2
 returns-2 c = let a = c .before .before .before .before .before .before .before .before .before .args in image-made Intervals (a .op) (a .t .now) (c .before .before .before .before .before .before .before .before .before .pre .0) (c .before .before .before .before .before .before .before .before .before .pre .1) (c .before .before .before .before .before .before .before .before .before .pre .2) (c .before .before .before .before .before .before .before .before .before .pre .3) (c .before .before .before .before .transform .ensures) (c .enum-told .given .1)
 

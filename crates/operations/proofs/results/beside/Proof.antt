@@ -1,32 +1,24 @@
 use borrow.Author.Needs.{needs}
 use Rattle.operations.proofs.results.beside.Statement.{statement}
 use Rattle.operations.proofs.results.beside.Tie as tie
-use Rattle.operations.proofs.results.beside.Reads as reads
-use Rattle.operations.proofs.results.beside.Lts as lts
-use Rattle.refusals.proofs.earlier.Reads as earlier-reads
 use mathlib.Core.Path.{sym, ap, _∙_}
 use Rattle.refusals.specs.Refusals.{refused}
 use Rattle.operations.specs.Results.{saidSized}
 use Rattle.operations.specs.Fitting.{besideRefused}
 use Rattle.operations.specs.declared.Sized.{Sized}
 
--- src/results.rt:105:27
 enum-told : tie.Need-enum-told
 enum-told c = search needs
 
--- src/results.rt:106:24
 enum-known-x : tie.Need-enum-known-x
 enum-known-x c = search needs
 
--- src/results.rt:106:45
 earlier-requires : tie.Need-earlier-requires
 earlier-requires c κs = search needs
 
--- src/results.rt:101:1
 returns : tie.Need-returns
 returns c = let a = c .before .before .args in sym (ap (λ (x : Sized). besideRefused (a .e) (saidSized x)) (c .enum-told .given .1))
 
--- src/results.rt:101:1
 returns-2 : tie.Need-returns-2
 returns-2 c = let a = c .before .before .before .before .args in ap refused (c .earlier .ensures) ∙ sym (ap (λ (x : Sized). besideRefused (a .e) (saidSized x)) (c .before .before .x .given .1))
 

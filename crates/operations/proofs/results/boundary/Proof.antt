@@ -1,55 +1,40 @@
 use borrow.Author.Needs.{needs}
 use Rattle.operations.proofs.results.boundary.Statement.{statement}
 use Rattle.operations.proofs.results.boundary.Tie as tie
-use Rattle.operations.proofs.results.boundary.Reads as reads
-use Rattle.operations.proofs.results.boundary.Lts as lts
-use Rattle.operations.proofs.results.boundary_size.Reads as boundary-size-reads
-use Rattle.passes.proofs.side.Reads as side-reads
 use mathlib.Core.Path.{sym, ap, _∙_}
 use native.Mathlib.Omega.{arith}
 use Rattle.operations.proofs.AnswerLaws.{both-refused, both-short, both-done, boundary-sided}
 
--- src/results.rt:211:11
 boundary-size-requires : tie.Need-boundary-size-requires
 boundary-size-requires c κs = search needs
 
--- src/results.rt:212:21
 enum-known-z : tie.Need-enum-known-z
 enum-known-z c = search needs
 
--- src/results.rt:215:17
 returns : tie.Need-returns
 returns c = let a = c .before .before .before .before .before .before .before .before .args in both-short (a .s .now) (a .zero .now) (a .one .now) (c .before .before .before .before .boundary-size .ensures) (c .before .before .z .given .1) (omega arith)
 
--- src/results.rt:218:17
 returns-2 : tie.Need-returns-2
 returns-2 c = let a = c .before .before .before .before .before .before .before .before .before .args in both-short (a .s .now) (a .zero .now) (a .one .now) (c .before .before .before .before .before .boundary-size .ensures) (c .before .before .before .z .given .1) (omega arith)
 
--- src/results.rt:220:13
 side-requires : tie.Need-side-requires
 side-requires c κs = let a = c .before .before .before .before .before .before .before .before .before .before .args in boundary-sided (a .s .now) (c .before .before .before .before .before .before .boundary-size .ensures) (c .before .before .before .before .z .given .1) 0 (omega arith) _ (c .before .before .if1 .left)
 
--- src/results.rt:221:13
 side-requires-2 : tie.Need-side-requires-2
 side-requires-2 c κs = let a = c .before .before .before .before .before .before .before .before .before .before .before .before .before .before .args in boundary-sided (a .s .now) (c .before .before .before .before .before .before .before .before .before .before .boundary-size .ensures) (c .before .before .before .before .before .before .before .before .z .given .1) 1 (omega arith) _ (c .before .before .before .before .before .if2 .left)
 
--- src/results.rt:224:24
 enum-known-e : tie.Need-enum-known-e
 enum-known-e c = search needs
 
--- src/results.rt:208:1
 same-length : tie.Need-same-length
 same-length c = search needs
 
--- src/results.rt:208:1
 same-length-2 : tie.Need-same-length-2
 same-length-2 c = search needs
 
--- src/results.rt:208:1
 returns-3 : tie.Need-returns-3
 returns-3 c = let a = c .before .before .before .before .before .before .before .before .before .before .before .before .before .before .before .before .before .args in both-done (a .s .now) (a .zero .now) (a .one .now) (c .before .before .before .before .before .before .before .before .before .before .before .before .before .boundary-size .ensures) (c .before .before .before .before .before .before .before .before .before .before .before .z .given .1) (c .before .before .before .before .before .before .before .before .before .if1 .left) (c .before .before .before .before .before .before .before .before .if2 .left) _ _ _ _ (c .before .before .before .before .before .before .side .ensures) (c .before .before .side2 .ensures)
 
--- src/results.rt:208:1
 returns-4 : tie.Need-returns-4
 returns-4 c = let a = c .before .before .before .before .before .before .before .args in both-refused (a .s .now) (a .zero .now) (a .one .now) (c .before .before .before .boundary-size .ensures) (c .before .e .given .1)
 

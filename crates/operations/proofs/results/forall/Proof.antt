@@ -1,55 +1,41 @@
 use borrow.Author.Needs.{needs}
 use Rattle.operations.proofs.results.forall.Statement.{statement}
 use Rattle.operations.proofs.results.forall.Tie as tie
-use Rattle.operations.proofs.results.forall.Reads as reads
-use Rattle.operations.proofs.results.forall.Lts as lts
-use Rattle.operations.proofs.results.forall_size.Reads as forall-size-reads
-use Rattle.passes.proofs.rewrite.Reads as rewrite-reads
 use mathlib.Core.Path.{sym, ap, _∙_}
 use Rattle.formula.specs.declared.Sort.the-variants.{Faces}
 use Rattle.operations.specs.Results.{foralled}
 use Rattle.passes.proofs.PassLaws.{wrote-as}
 use Rattle.operations.proofs.AnswerLaws.{sized-refused, answered-refused, answered-short, answered-done, forall-fitted, forall-rewritable, forall-spells}
 
--- src/results.rt:143:11
 forall-size-requires : tie.Need-forall-size-requires
 forall-size-requires c κs = search needs
 
--- src/results.rt:144:21
 enum-known-z : tie.Need-enum-known-z
 enum-known-z c = search needs
 
--- src/results.rt:147:17
 returns : tie.Need-returns
 returns c = let a = c .before .before .before .before .before .before .before .args in answered-short Faces (foralled (a .k) (a .s .now)) (a .out .now) _ (forall-fitted (a .k) (a .s .now) (c .before .before .before .before .forall-size .ensures) (c .before .before .z .given .1)) (c .if1 .taken)
 
--- src/results.rt:150:60
 slice-aggregate-rewrite : tie.Need-slice-aggregate-rewrite
 slice-aggregate-rewrite c = search needs
 
--- src/results.rt:150:65
 slice-aggregate-rewrite-2 : tie.Need-slice-aggregate-rewrite-2
 slice-aggregate-rewrite-2 c = search needs
 
--- src/results.rt:150:13
 rewrite-requires : tie.Need-rewrite-requires
 rewrite-requires c κs = let a = c .before .before .before .before .before .before .before .before .before .before .args in forall-rewritable (a .k) (a .s .now) (c .before .before .before .before .before .before .before .forall-size .ensures) (c .before .before .before .before .before .z .given .1) _ (c .before .before .before .if1 .left)
 
--- src/results.rt:153:24
 enum-known-e : tie.Need-enum-known-e
 enum-known-e c = search needs
 
--- src/results.rt:140:1
 same-length : tie.Need-same-length
 same-length c = search needs
 
--- src/results.rt:140:1
 returns-2 : tie.Need-returns-2
 returns-2 c = let a = c .before .before .before .before .before .before .before .before .before .before .before .before .before .args in
     answered-done Faces (foralled (a .k) (a .s .now)) (a .out .now) _ (forall-fitted (a .k) (a .s .now) (c .before .before .before .before .before .before .before .before .before .before .forall-size .ensures) (c .before .before .before .before .before .before .before .before .z .given .1)) (c .before .before .before .before .before .before .if1 .left) _ _
     (wrote-as (forall-spells (a .k) (a .s .now) (c .before .before .before .before .before .before .before .before .before .before .forall-size .ensures) (c .before .before .before .before .before .before .before .before .z .given .1)) (c .before .before .rewrite .ensures))
 
--- src/results.rt:140:1
 returns-3 : tie.Need-returns-3
 returns-3 c = let a = c .before .before .before .before .before .before .args in answered-refused Faces (foralled (a .k) (a .s .now)) (a .out .now) (sized-refused Faces (foralled (a .k) (a .s .now)) (c .before .before .before .forall-size .ensures) (c .before .e .given .1))
 

@@ -1,51 +1,38 @@
 use borrow.Author.Needs.{needs}
 use Rattle.operations.proofs.results.resized.Statement.{statement}
 use Rattle.operations.proofs.results.resized.Tie as tie
-use Rattle.operations.proofs.results.resized.Reads as reads
-use Rattle.operations.proofs.results.resized.Lts as lts
-use Rattle.formula.proofs.within.Reads as within-reads
-use Rattle.operations.proofs.results.operand_size.Reads as operand-size-reads
-use Rattle.passes.proofs.weigh.Reads as weigh-reads
 use mathlib.Core.Path.{sym, ap, _∙_}
 use Rattle.operations.specs.Results.{operand}
 use Rattle.operations.specs.Fitting.{resizedBy}
 use Rattle.operations.proofs.AnswerLaws.{sized-fits, sized-refused, opened, opened-whole, resized-kept}
 
--- src/results.rt:46:11
 operand-size-requires : tie.Need-operand-size-requires
 operand-size-requires c κs = search needs
 
--- src/results.rt:48:17
 enum-told : tie.Need-enum-told
 enum-told c = search needs
 
--- src/results.rt:48:17
 weigh-requires : tie.Need-weigh-requires
 weigh-requires c κs = let a = c .before .before .before .before .args in
     let f = (sized-fits (a .sort) (operand (a .sort) (a .s .now)) (c .before .before .operand-size .ensures) (c .enum-told .given .1)) in
     (opened-whole (a .sort) (a .s .now) (f .tree) (opened (a .sort) (a .s .now) (f .tree) (f .is)), c .before .before .before .before .pre)
 
--- src/results.rt:49:16
 within-requires : tie.Need-within-requires
 within-requires c κs = search needs
 
--- src/results.rt:50:17
 returns : tie.Need-returns
 returns c = let a = c .before .before .before .before .before .before .before .args in
     let f = (sized-fits (a .sort) (operand (a .sort) (a .s .now)) (c .before .before .before .before .before .operand-size .ensures) (c .before .before .before .enum-told .given .1)) in
     sym (resized-kept (a .sort) (a .rule) (a .hit) (a .s .now) (f .tree) (f .is) (c .before .before .weigh .result) (c .before .before .weigh .ensures) ∙ rw (sym (c .before .within .ensures) ∙ c .if1 .taken))
 
--- src/results.rt:54:24
 enum-known-e : tie.Need-enum-known-e
 enum-known-e c = search needs
 
--- src/results.rt:42:1
 returns-2 : tie.Need-returns-2
 returns-2 c = let a = c .before .before .before .before .before .before .before .args in
     let f = (sized-fits (a .sort) (operand (a .sort) (a .s .now)) (c .before .before .before .before .before .operand-size .ensures) (c .before .before .before .enum-told .given .1)) in
     sym (resized-kept (a .sort) (a .rule) (a .hit) (a .s .now) (f .tree) (f .is) (c .before .before .weigh .result) (c .before .before .weigh .ensures) ∙ rw (sym (c .before .within .ensures) ∙ c .if1 .left))
 
--- src/results.rt:42:1
 returns-3 : tie.Need-returns-3
 returns-3 c = let a = c .before .before .before .before .before .args in
     sym (ap (resizedBy (a .sort) (a .rule) (a .hit)) (sized-refused (a .sort) (operand (a .sort) (a .s .now)) (c .before .before .before .operand-size .ensures) (c .before .e .given .1)))

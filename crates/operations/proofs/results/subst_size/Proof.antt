@@ -1,45 +1,31 @@
 use borrow.Author.Needs.{needs}
 use Rattle.operations.proofs.results.subst_size.Statement.{statement}
 use Rattle.operations.proofs.results.subst_size.Tie as tie
-use Rattle.operations.proofs.results.subst_size.Reads as reads
-use Rattle.operations.proofs.results.subst_size.Lts as lts
-use Rattle.operations.proofs.results.beside.Reads as beside-reads
-use Rattle.operations.proofs.results.hit_size.Reads as hit-size-reads
-use Rattle.operations.proofs.results.operand_size.Reads as operand-size-reads
-use Rattle.operations.proofs.results.resized.Reads as resized-reads
 use mathlib.Core.Path.{sym, ap, _∙_}
 use Rattle.operations.specs.Fitting.{besideRefused}
 use Rattle.operations.proofs.AnswerLaws.{hit-fits, hit-refused, hit-small, subst-resized, subst-refused}
 
--- src/results.rt:114:11
 hit-size-requires : tie.Need-hit-size-requires
 hit-size-requires c κs = search needs
 
--- src/results.rt:115:21
 enum-known-z : tie.Need-enum-known-z
 enum-known-z c = search needs
 
--- src/results.rt:115:27
 resized-requires : tie.Need-resized-requires
 resized-requires c κs = let a = c .before .before .before .before .before .before .args in hit-small (a .sort) (a .r .now) _ (hit-fits (a .sort) (a .r .now) (c .before .before .before .hit-size .ensures) (c .before .z .given .1))
 
--- src/results.rt:116:24
 enum-known-e : tie.Need-enum-known-e
 enum-known-e c = search needs
 
--- src/results.rt:116:37
 operand-size-requires : tie.Need-operand-size-requires
 operand-size-requires c κs = search needs
 
--- src/results.rt:116:30
 beside-requires : tie.Need-beside-requires
 beside-requires c κs = search needs
 
--- src/results.rt:111:1
 returns : tie.Need-returns
 returns c = let a = c .before .before .before .before .before .before .before .args in c .resized .ensures ∙ sym (subst-resized (a .sort) (a .k) (a .s .now) (a .r .now) _ (hit-fits (a .sort) (a .r .now) (c .before .before .before .before .hit-size .ensures) (c .before .before .z .given .1)))
 
--- src/results.rt:111:1
 returns-2 : tie.Need-returns-2
 returns-2 c = let a = c .before .before .before .before .before .before .before .before .args in
     c .beside .ensures ∙ ap (besideRefused _) (c .before .operand-size .ensures) ∙ sym (subst-refused (a .sort) (a .k) (a .s .now) (a .r .now) (hit-refused (a .sort) (a .r .now) (c .before .before .before .before .before .hit-size .ensures) (c .before .before .before .e .given .1)))

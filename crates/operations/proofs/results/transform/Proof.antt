@@ -1,44 +1,32 @@
 use borrow.Author.Needs.{needs}
 use Rattle.operations.proofs.results.transform.Statement.{statement}
 use Rattle.operations.proofs.results.transform.Tie as tie
-use Rattle.operations.proofs.results.transform.Reads as reads
-use Rattle.operations.proofs.results.transform.Lts as lts
-use Rattle.operations.proofs.results.transform_out.Reads as transform-out-reads
-use Rattle.operations.proofs.results.transform_size.Reads as transform-size-reads
 use mathlib.Core.Path.{sym, ap, _∙_}
 use lib.ListN.{length}
 use Rattle.operations.specs.Results.{transformed}
 use Rattle.operations.proofs.AnswerLaws.{sized-fits, sized-refused, answered-refused, answered-short, answered-kept, fitting}
 
--- src/results.rt:194:11
 transform-size-requires : tie.Need-transform-size-requires
 transform-size-requires c κs = search needs
 
--- src/results.rt:195:21
 enum-known-z : tie.Need-enum-known-z
 enum-known-z c = search needs
 
--- src/results.rt:198:17
 returns : tie.Need-returns
 returns c = let a = c .before .before .before .before .before .before .before .before .args in answered-short (a .sort) (transformed (a .sort) (a .op) (a .s .now) (a .r .now)) (a .out .now) _ (sized-fits (a .sort) (transformed (a .sort) (a .op) (a .s .now) (a .r .now)) (c .before .before .before .before .transform-size .ensures) (c .before .before .z .given .1)) (c .if1 .taken)
 
--- src/results.rt:200:13
 transform-out-requires : tie.Need-transform-out-requires
 transform-out-requires c κs = let a = c .before .before .before .before .before .before .before .before .before .args in fitting (a .sort) (transformed (a .sort) (a .op) (a .s .now) (a .r .now)) _ (length (a .out .now)) (sized-fits (a .sort) (transformed (a .sort) (a .op) (a .s .now) (a .r .now)) (c .before .before .before .before .before .transform-size .ensures) (c .before .before .before .z .given .1)) (c .before .if1 .left)
 
--- src/results.rt:203:24
 enum-known-e : tie.Need-enum-known-e
 enum-known-e c = search needs
 
--- src/results.rt:191:1
 same-length : tie.Need-same-length
 same-length c = search needs
 
--- src/results.rt:191:1
 returns-2 : tie.Need-returns-2
 returns-2 c = let a = c .before .before .before .before .before .before .before .before .before .before .before .before .args in answered-kept (a .sort) (transformed (a .sort) (a .op) (a .s .now) (a .r .now)) (a .out .now) _ (sized-fits (a .sort) (transformed (a .sort) (a .op) (a .s .now) (a .r .now)) (c .before .before .before .before .before .before .before .before .transform-size .ensures) (c .before .before .before .before .before .before .z .given .1)) (c .before .before .before .before .if1 .left) _ _ (c .before .before .transform-out .ensures)
 
--- src/results.rt:191:1
 returns-3 : tie.Need-returns-3
 returns-3 c = let a = c .before .before .before .before .before .before .before .args in answered-refused (a .sort) (transformed (a .sort) (a .op) (a .s .now) (a .r .now)) (a .out .now) (sized-refused (a .sort) (transformed (a .sort) (a .op) (a .s .now) (a .r .now)) (c .before .before .before .transform-size .ensures) (c .before .e .given .1))
 

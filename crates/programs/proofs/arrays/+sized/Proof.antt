@@ -22,7 +22,6 @@ sized-at t = and 5 sized-kinds.ps (is 5 sized-kinds.ps μ-sized t) sized.Pre
 abbrev sized-below : ℕ → In 5 sized-kinds.ps
 sized-below t = and 5 sized-kinds.ps (falls 5 sized-kinds.ps _<_ μ-sized t) sized.Pre
 
--- src/arrays.rt:47:9
 sized-large-requires : (t : ℕ) → sized-lts.Need-large-requires (
   large-reads.Asked,
   large-reads.Learnt,
@@ -35,7 +34,6 @@ sized-large-requires : (t : ℕ) → sized-lts.Need-large-requires (
 ) (sized-at t) sized.Post
 sized-large-requires t c κs = (c .before .before .before .before .before .before .before .pre .1 .0, c .before .before .before .before .before .before .before .pre .1 .0 .small, c .before .before .before .before .before .before .before .pre .1 .1)
 
--- src/arrays.rt:47:9
 sized-same-length : (t : ℕ) → sized-lts.Need-same-length (
   large-reads.Asked,
   large-reads.Learnt,
@@ -48,7 +46,6 @@ sized-same-length : (t : ℕ) → sized-lts.Need-same-length (
 ) (sized-at t) sized.Post
 sized-same-length t c = search needs
 
--- src/arrays.rt:47:9
 sized-returns : (t : ℕ) → sized-lts.Need-returns (
   large-reads.Asked,
   large-reads.Learnt,
@@ -61,7 +58,6 @@ sized-returns : (t : ℕ) → sized-lts.Need-returns (
 ) (sized-at t) sized.Post
 sized-returns t c = c .before .before .large .ensures
 
--- src/arrays.rt:50:9
 sized-sized-requires : (t : ℕ) → sized-lts.Need-sized-requires (
   large-reads.Asked,
   large-reads.Learnt,
@@ -74,7 +70,6 @@ sized-sized-requires : (t : ℕ) → sized-lts.Need-sized-requires (
 ) (sized-at t) sized.Post
 sized-sized-requires t c κs = (omega (arith, c .before .before .before .before .before .before .before .before .pre .0), c .before .before .before .before .before .before .before .before .pre .1)
 
--- src/arrays.rt:50:9
 sized-same-length-2 : (t : ℕ) → sized-lts.Need-same-length-2 (
   large-reads.Asked,
   large-reads.Learnt,
@@ -87,7 +82,6 @@ sized-same-length-2 : (t : ℕ) → sized-lts.Need-same-length-2 (
 ) (sized-at t) sized.Post
 sized-same-length-2 t c = search needs
 
--- src/arrays.rt:50:9
 sized-returns-2 : (t : ℕ) → sized-lts.Need-returns-2 (
   large-reads.Asked,
   large-reads.Learnt,
@@ -100,7 +94,6 @@ sized-returns-2 : (t : ℕ) → sized-lts.Need-returns-2 (
 ) (sized-at t) sized.Post
 sized-returns-2 t c = c .before .before .sized .ensures
 
--- src/arrays.rt:53:9
 sized-small-requires : (t : ℕ) → sized-lts.Need-small-requires (
   large-reads.Asked,
   large-reads.Learnt,
@@ -113,7 +106,6 @@ sized-small-requires : (t : ℕ) → sized-lts.Need-small-requires (
 ) (sized-at t) sized.Post
 sized-small-requires t c κs = (c .before .before .before .before .before .before .before .before .before .pre .1 .0, omega arith, c .before .before .before .before .before .before .before .before .before .pre .1 .1)
 
--- src/arrays.rt:53:9
 sized-same-length-3 : (t : ℕ) → sized-lts.Need-same-length-3 (
   large-reads.Asked,
   large-reads.Learnt,
@@ -126,7 +118,6 @@ sized-same-length-3 : (t : ℕ) → sized-lts.Need-same-length-3 (
 ) (sized-at t) sized.Post
 sized-same-length-3 t c = search needs
 
--- src/arrays.rt:53:9
 sized-returns-3 : (t : ℕ) → sized-lts.Need-returns-3 (
   large-reads.Asked,
   large-reads.Learnt,
@@ -139,7 +130,6 @@ sized-returns-3 : (t : ℕ) → sized-lts.Need-returns-3 (
 ) (sized-at t) sized.Post
 sized-returns-3 t c = c .before .before .small .ensures
 
--- src/arrays.rt:55:5
 sized-medium-requires : (t : ℕ) → sized-lts.Need-medium-requires (
   large-reads.Asked,
   large-reads.Learnt,
@@ -152,7 +142,6 @@ sized-medium-requires : (t : ℕ) → sized-lts.Need-medium-requires (
 ) (sized-at t) sized.Post
 sized-medium-requires t c κs = (c .before .before .before .before .before .before .before .before .before .pre .1 .0, omega arith, c .before .before .before .before .before .before .before .before .before .pre .1 .1)
 
--- src/arrays.rt:42:1
 sized-same-length-4 : (t : ℕ) → sized-lts.Need-same-length-4 (
   large-reads.Asked,
   large-reads.Learnt,
@@ -165,7 +154,6 @@ sized-same-length-4 : (t : ℕ) → sized-lts.Need-same-length-4 (
 ) (sized-at t) sized.Post
 sized-same-length-4 t c = search needs
 
--- src/arrays.rt:42:1
 sized-returns-4 : (t : ℕ) → sized-lts.Need-returns-4 (
   large-reads.Asked,
   large-reads.Learnt,

@@ -1,61 +1,45 @@
 use borrow.Author.Needs.{needs}
 use Rattle.results.proofs.foralls.forall.Statement.{statement}
 use Rattle.results.proofs.foralls.forall.Tie as tie
-use Rattle.results.proofs.foralls.forall.Reads as reads
-use Rattle.results.proofs.foralls.forall.Lts as lts
-use Rattle.operations.proofs.forall.Reads as forall-reads
-use Rattle.results.proofs.foralls.run.Reads as run-reads
 use mathlib.Core.Path.{sym}
 use native.Mathlib.Omega.{arith}
 use Rattle.transforms.proofs.ImageLaws.{room}
 use Rattle.results.proofs.ResultLaws.{result-done, result-large, one-large, one-short}
 use Rattle.results.proofs.IndexLaws.{forall-result, forall-computed}
 
--- src/foralls.rt:37:36
 slice-aggregate-forall : tie.Need-slice-aggregate-forall
 slice-aggregate-forall c = search needs
 
--- src/foralls.rt:37:11
 forall-requires : tie.Need-forall-requires
 forall-requires c κs = search needs
 
--- src/foralls.rt:38:21
 enum-known-z : tie.Need-enum-known-z
 enum-known-z c = search needs
 
--- src/foralls.rt:41:17
 returns : tie.Need-returns
 returns c = let p = c .before .before .before .before .before .before .before .before .before .before .args in one-short (forall-result (p .f .now) (p .k) (p .out .now) (c .before .before .before .before .before .before .before .before .before .before .pre .0) (c .before .before .before .before .before .before .before .before .before .before .pre .1) (c .before .before .before .before .before .before .before .before .before .before .pre .2)) (result-done (forall-computed (p .f .now) (p .k) (p .out .now) (c .before .before .before .before .before .before .before .before .before .before .pre .1) room (c .before .before .before .before .before .forall .ensures)) _ (c .before .before .z .given .1) .0) (c .if1 .taken)
 
--- src/foralls.rt:43:26
 array-share-prefix-result : tie.Need-array-share-prefix-result
 array-share-prefix-result c = let p = c .before .before .before .before .before .before .before .before .before .before .before .args in result-done (forall-computed (p .f .now) (p .k) (p .out .now) (c .before .before .before .before .before .before .before .before .before .before .before .pre .1) room (c .before .before .before .before .before .before .forall .ensures)) _ (c .before .before .before .z .given .1) .1
 
--- src/foralls.rt:43:26
 slice-aggregate-run : tie.Need-slice-aggregate-run
 slice-aggregate-run c = let p = c .before .before .before .before .before .before .before .before .before .before .before .before .args in sym (result-done (forall-computed (p .f .now) (p .k) (p .out .now) (c .before .before .before .before .before .before .before .before .before .before .before .before .pre .1) room (c .before .before .before .before .before .before .before .forall .ensures)) _ (c .before .before .before .before .z .given .1) .2)
 
--- src/foralls.rt:43:13
 run-requires : tie.Need-run-requires
 run-requires c κs = let p = c .before .before .before .before .before .before .before .before .before .before .before .before .before .args in let k = result-done (forall-computed (p .f .now) (p .k) (p .out .now) (c .before .before .before .before .before .before .before .before .before .before .before .before .before .pre .1) room (c .before .before .before .before .before .before .before .before .forall .ensures)) _ (c .before .before .before .before .before .z .given .1) in (c .before .before .before .before .before .before .before .before .before .before .before .before .before .pre .0, c .before .before .before .before .before .before .before .before .before .before .before .before .before .pre .1, c .before .before .before .before .before .before .before .before .before .before .before .before .before .pre .2, k .0, omega (arith, k .2, c .before .before .before .if1 .left))
 
--- src/foralls.rt:45:24
 enum-known-e : tie.Need-enum-known-e
 enum-known-e c = search needs
 
--- src/foralls.rt:32:1
 same-length : tie.Need-same-length
 same-length c = search needs
 
--- src/foralls.rt:32:1
 same-length-2 : tie.Need-same-length-2
 same-length-2 c = search needs
 
--- src/foralls.rt:32:1
 returns-2 : tie.Need-returns-2
 returns-2 c = search needs
 
--- src/foralls.rt:32:1
 returns-3 : tie.Need-returns-3
 returns-3 c = let p = c .before .before .before .before .before .before .before .before .before .args in one-large (forall-result (p .f .now) (p .k) (p .out .now) (c .before .before .before .before .before .before .before .before .before .pre .0) (c .before .before .before .before .before .before .before .before .before .pre .1) (c .before .before .before .before .before .before .before .before .before .pre .2)) (result-large (forall-computed (p .f .now) (p .k) (p .out .now) (c .before .before .before .before .before .before .before .before .before .pre .1) room (c .before .before .before .before .forall .ensures)) (c .before .e .given .1))
 

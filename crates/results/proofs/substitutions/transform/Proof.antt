@@ -1,61 +1,45 @@
 use borrow.Author.Needs.{needs}
 use Rattle.results.proofs.substitutions.transform.Statement.{statement}
 use Rattle.results.proofs.substitutions.transform.Tie as tie
-use Rattle.results.proofs.substitutions.transform.Reads as reads
-use Rattle.results.proofs.substitutions.transform.Lts as lts
-use Rattle.operations.proofs.transform.Reads as transform-reads
-use Rattle.results.proofs.substitutions.run.Reads as run-reads
 use mathlib.Core.Path.{sym}
 use native.Mathlib.Omega.{arith}
 use Rattle.transforms.proofs.ImageLaws.{room}
 use Rattle.results.proofs.ResultLaws.{result-done, result-large, one-large, one-short}
 use Rattle.results.proofs.IndexLaws.{change-result, change-computed}
 
--- src/substitutions.rt:47:49
 slice-aggregate-transform : tie.Need-slice-aggregate-transform
 slice-aggregate-transform c = search needs
 
--- src/substitutions.rt:47:11
 transform-requires : tie.Need-transform-requires
 transform-requires c κs = search needs
 
--- src/substitutions.rt:48:21
 enum-known-z : tie.Need-enum-known-z
 enum-known-z c = search needs
 
--- src/substitutions.rt:51:17
 returns : tie.Need-returns
 returns c = let p = c .before .before .before .before .before .before .before .before .before .before .before .args in one-short (change-result (p .sort) (p .t .now) (p .r .now) (p .out .now) (p .op) (c .before .before .before .before .before .before .before .before .before .before .before .pre .0) (c .before .before .before .before .before .before .before .before .before .before .before .pre .1) (c .before .before .before .before .before .before .before .before .before .before .before .pre .2)) (result-done (change-computed (p .sort) (p .t .now) (p .r .now) (p .out .now) (p .op) (c .before .before .before .before .before .before .before .before .before .before .before .pre .1) (c .before .before .before .before .before .before .before .before .before .before .before .pre .2) room (c .before .before .before .before .before .transform .ensures)) _ (c .before .before .z .given .1) .0) (c .if1 .taken)
 
--- src/substitutions.rt:53:36
 array-share-prefix-result : tie.Need-array-share-prefix-result
 array-share-prefix-result c = let p = c .before .before .before .before .before .before .before .before .before .before .before .before .args in result-done (change-computed (p .sort) (p .t .now) (p .r .now) (p .out .now) (p .op) (c .before .before .before .before .before .before .before .before .before .before .before .before .pre .1) (c .before .before .before .before .before .before .before .before .before .before .before .before .pre .2) room (c .before .before .before .before .before .before .transform .ensures)) _ (c .before .before .before .z .given .1) .1
 
--- src/substitutions.rt:53:36
 slice-aggregate-run : tie.Need-slice-aggregate-run
 slice-aggregate-run c = let p = c .before .before .before .before .before .before .before .before .before .before .before .before .before .args in sym (result-done (change-computed (p .sort) (p .t .now) (p .r .now) (p .out .now) (p .op) (c .before .before .before .before .before .before .before .before .before .before .before .before .before .pre .1) (c .before .before .before .before .before .before .before .before .before .before .before .before .before .pre .2) room (c .before .before .before .before .before .before .before .transform .ensures)) _ (c .before .before .before .before .z .given .1) .2)
 
--- src/substitutions.rt:53:13
 run-requires : tie.Need-run-requires
 run-requires c κs = let p = c .before .before .before .before .before .before .before .before .before .before .before .before .before .before .args in let k = result-done (change-computed (p .sort) (p .t .now) (p .r .now) (p .out .now) (p .op) (c .before .before .before .before .before .before .before .before .before .before .before .before .before .before .pre .1) (c .before .before .before .before .before .before .before .before .before .before .before .before .before .before .pre .2) room (c .before .before .before .before .before .before .before .before .transform .ensures)) _ (c .before .before .before .before .before .z .given .1) in (c .before .before .before .before .before .before .before .before .before .before .before .before .before .before .pre .0, c .before .before .before .before .before .before .before .before .before .before .before .before .before .before .pre .1, c .before .before .before .before .before .before .before .before .before .before .before .before .before .before .pre .2, k .0, omega (arith, k .2, c .before .before .before .if1 .left))
 
--- src/substitutions.rt:55:24
 enum-known-e : tie.Need-enum-known-e
 enum-known-e c = search needs
 
--- src/substitutions.rt:42:1
 same-length : tie.Need-same-length
 same-length c = search needs
 
--- src/substitutions.rt:42:1
 same-length-2 : tie.Need-same-length-2
 same-length-2 c = search needs
 
--- src/substitutions.rt:42:1
 returns-2 : tie.Need-returns-2
 returns-2 c = search needs
 
--- src/substitutions.rt:42:1
 returns-3 : tie.Need-returns-3
 returns-3 c = let p = c .before .before .before .before .before .before .before .before .before .before .args in one-large (change-result (p .sort) (p .t .now) (p .r .now) (p .out .now) (p .op) (c .before .before .before .before .before .before .before .before .before .before .pre .0) (c .before .before .before .before .before .before .before .before .before .before .pre .1) (c .before .before .before .before .before .before .before .before .before .before .pre .2)) (result-large (change-computed (p .sort) (p .t .now) (p .r .now) (p .out .now) (p .op) (c .before .before .before .before .before .before .before .before .before .before .pre .1) (c .before .before .before .before .before .before .before .before .before .before .pre .2) room (c .before .before .before .before .transform .ensures)) (c .before .e .given .1))
 

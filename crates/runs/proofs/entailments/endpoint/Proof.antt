@@ -1,63 +1,46 @@
 use borrow.Author.Needs.{needs}
 use Rattle.runs.proofs.entailments.endpoint.Statement.{statement}
 use Rattle.runs.proofs.entailments.endpoint.Tie as tie
-use Rattle.runs.proofs.entailments.endpoint.Reads as reads
-use Rattle.runs.proofs.entailments.endpoint.Lts as lts
-use Rattle.operations.proofs.boundary.Reads as boundary-reads
-use Rattle.runs.proofs.entailments.run_endpoint.Reads as run-endpoint-reads
 use mathlib.Core.Path.{ap, sym}
 use lib.Seq.{length-take-le}
 use Rattle.transforms.proofs.ImageLaws.{room, sides-made, zero-front, one-front, sides-front}
 
--- src/entailments.rt:49:35
 slice-aggregate-boundary : tie.Need-slice-aggregate-boundary
 slice-aggregate-boundary c = search needs
 
--- src/entailments.rt:49:46
 slice-aggregate-boundary-2 : tie.Need-slice-aggregate-boundary-2
 slice-aggregate-boundary-2 c = search needs
 
--- src/entailments.rt:49:11
 boundary-requires : tie.Need-boundary-requires
 boundary-requires c κs = search needs
 
--- src/entailments.rt:50:21
 enum-known-z : tie.Need-enum-known-z
 enum-known-z c = search needs
 
--- src/entailments.rt:52:40
 array-share-prefix-zero : tie.Need-array-share-prefix-zero
 array-share-prefix-zero c = zero-front (c .before .before .before .before .before .before .before .before .before .before .before .before .pre .3) room room (c .before .before .before .before .before .before .boundary .ensures) _ (c .before .before .z .given .1) .inside
 
--- src/entailments.rt:52:40
 slice-aggregate-run-endpoint : tie.Need-slice-aggregate-run-endpoint
 slice-aggregate-run-endpoint c = sym (length-take-le _ _ (zero-front (c .before .before .before .before .before .before .before .before .before .before .before .before .before .pre .3) room room (c .before .before .before .before .before .before .before .boundary .ensures) _ (c .before .before .before .z .given .1) .inside))
 
--- src/entailments.rt:52:52
 array-share-prefix-one : tie.Need-array-share-prefix-one
 array-share-prefix-one c = one-front (c .before .before .before .before .before .before .before .before .before .before .before .before .before .pre .3) room room (c .before .before .before .before .before .before .before .boundary .ensures) _ (c .before .before .before .z .given .1) .inside
 
--- src/entailments.rt:52:52
 slice-aggregate-run-endpoint-2 : tie.Need-slice-aggregate-run-endpoint-2
 slice-aggregate-run-endpoint-2 c = sym (length-take-le _ _ (one-front (c .before .before .before .before .before .before .before .before .before .before .before .before .before .before .pre .3) room room (c .before .before .before .before .before .before .before .before .boundary .ensures) _ (c .before .before .before .before .z .given .1) .inside))
 
--- src/entailments.rt:52:13
 run-endpoint-requires : tie.Need-run-endpoint-requires
 run-endpoint-requires c κs = (c .before .before .before .before .before .before .before .before .before .before .before .before .before .before .pre .0, c .before .before .before .before .before .before .before .before .before .before .before .before .before .before .pre .1, c .before .before .before .before .before .before .before .before .before .before .before .before .before .before .pre .2, c .before .before .before .before .before .before .before .before .before .before .before .before .before .before .pre .3, sides-front (c .before .before .before .before .before .before .before .before .before .before .before .before .before .before .pre .3) room room (c .before .before .before .before .before .before .before .before .boundary .ensures) _ (c .before .before .before .before .z .given .1))
 
--- src/entailments.rt:54:24
 enum-known-e : tie.Need-enum-known-e
 enum-known-e c = search needs
 
--- src/entailments.rt:43:1
 same-length : tie.Need-same-length
 same-length c = search needs
 
--- src/entailments.rt:43:1
 returns : tie.Need-returns
 returns c = search needs
 
--- src/entailments.rt:43:1
 returns-2 : tie.Need-returns-2
 returns-2 c = sides-made (c .before .before .before .before .before .before .before .before .before .before .before .pre .3) room room (c .before .before .before .before .before .boundary .ensures) (c .before .e .given .1)
 
