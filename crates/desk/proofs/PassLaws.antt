@@ -10,13 +10,13 @@ use Rattle.calculus.specs.Judgement.{Step}
 use Rattle.calculus.specs.Rules.{stepAt, AllBelow, Follows, pass, fail, passes, fails}
 use Rattle.calculus.specs.Parse.{readLedger}
 use Rattle.calculus.specs.Desk.{DeskAnswer, unreadable, judged, no-ledger, on-steps, DeskGives}
-use Rattle.calculus.proofs.Records.{ledger-read, read-ledger}
+use Rattle.calculus.proofs.Records.{read-ledger}
 use Rattle.calculus.proofs.Desk.{Up, one-more}
-use Rattle.ledger.specs.declared.Checked.the-variants.{Steps, Ill as NoLedger}
-use Rattle.ledger.specs.Checks.{counted}
+use Rattle.refusals.specs.declared.Refusal.the-variants.{IllFormedLedger}
+use Rattle.refusals.specs.Refusals.{refused}
+use Rattle.ledger.specs.Checks.{stepCount}
 use Rattle.ledger.specs.Ledger.{stepsOf, placeOf, Led, Points}
 use Rattle.ledger.specs.Noting.{Noted, Notes}
-use Rattle.ledger.proofs.LedgerLaws.{holds-steps, holds-led}
 use Rattle.ledger.proofs.PointLaws.{Walks, walks-start, walks-next}
 use Rattle.ledger.proofs.NotingLaws.{noted-none, few-steps, low-place}
 use Rattle.rules.specs.Standing.{Decides}
@@ -64,17 +64,10 @@ module _ {l : List ℕ} {step at : ℕ} {places : List ℕ} (g : Passing l step 
 
 -- On bytes -------------------------------------------------------------------------------------------
 
-pub counted-led : (l : List ℕ) → AllBelow 256 l → {n : ℕ} → counted (readLedger l) ≡ Steps n → Led l × (n ≡ length (stepsOf l))
-counted-led l a {n} h = go (readLedger l) refl h
-  where
-    go : (o : Option (List Step)) → readLedger l ≡ o → counted o ≡ Steps n → Led l × (n ≡ length (stepsOf l))
-    go none r h = absurd (let z : _≡_ {A = ℕ} 0 1 = cc in omega arith)
-    go (some L) r h = let k = ledger-read l L a r in let e : length L ≡ n = cc in (holds-led k, omega (arith, ap length (holds-steps k)))
-
-pub ill-answer : (l : List ℕ) → counted (readLedger l) ≡ NoLedger → DeskGives answerAs l Ill
+pub ill-answer : (l : List ℕ) → stepCount (readLedger l) ≡ refused IllFormedLedger → DeskGives answerAs l Ill
 ill-answer l h = go (readLedger l) refl h
   where
-    go : (o : Option (List Step)) → readLedger l ≡ o → counted o ≡ NoLedger → DeskGives answerAs l Ill
+    go : (o : Option (List Step)) → readLedger l ≡ o → stepCount o ≡ refused IllFormedLedger → DeskGives answerAs l Ill
     go none e h = record { answer = unreadable; says = no-ledger e; given = refl }
     go (some L) e h = absurd (let z : _≡_ {A = ℕ} 0 1 = cc in omega arith)
 

@@ -3,9 +3,9 @@ use formula::Advance;
 use formula::Measured;
 use formula::Place;
 use formula::Size;
+use formula::Sized;
 use formula::Sort;
 use ledger::Checked;
-use operations::Sized;
 use refusals::Refusal;
 
 pub fn yes_no(is_so: bool) {

@@ -9,7 +9,7 @@ ghost use Rattle.kinds.specs.Kinds.{nameBytes};
 ghost use Rattle.ledger.specs.Checks.{stepCount};
 ghost use Rattle.ledger.specs.Ledger.{stepsOf};
 ghost use Rattle.lookup.specs.Lookup.{operandsStart, operandsLength, kindOf, referenceOf};
-ghost use Rattle.formula.specs.Bytes.{encode, readAll};
+ghost use Rattle.formula.specs.Bytes.{encode};
 ghost use Rattle.refusals.specs.Refusals.{done, map};
 ghost use Rattle.text.specs.Reading.{readFormula, readClaim};
 ghost use Rattle.text.specs.Answers.{delivered, bothDelivered};
@@ -164,7 +164,7 @@ pub extern "C" fn lf_read_claim(source: &[u8], a: &mut [u8], b: &mut [u8]) -> u6
 // The text of a face, in front of the output.
 #[no_mangle]
 pub extern "C" fn lf_write_face(f: &[u8], out: &mut [u8]) -> u64
-    ensures { λ r. ⌜ Reads (delivered (written Sort.Faces (readAll Sort.Faces (now (f .entry)))) (now (out .entry))) r (now (out .exit)) ⌝ }
+    ensures { λ r. ⌜ Reads (delivered (written Sort.Faces (now (f .entry))) (now (out .entry))) r (now (out .exit)) ⌝ }
 {
     numbers::length(writing::write_formula(Sort::Faces, f, out))
 }
@@ -172,7 +172,7 @@ pub extern "C" fn lf_write_face(f: &[u8], out: &mut [u8]) -> u64
 // The text of an interval, in front of the output.
 #[no_mangle]
 pub extern "C" fn lf_write_interval(r: &[u8], out: &mut [u8]) -> u64
-    ensures { λ x. ⌜ Reads (delivered (written Sort.Intervals (readAll Sort.Intervals (now (r .entry)))) (now (out .entry))) x (now (out .exit)) ⌝ }
+    ensures { λ x. ⌜ Reads (delivered (written Sort.Intervals (now (r .entry))) (now (out .entry))) x (now (out .exit)) ⌝ }
 {
     numbers::length(writing::write_formula(Sort::Intervals, r, out))
 }
@@ -180,7 +180,7 @@ pub extern "C" fn lf_write_interval(r: &[u8], out: &mut [u8]) -> u64
 // The normal form of a face, in front of the output.
 #[no_mangle]
 pub extern "C" fn lf_normal(f: &[u8], out: &mut [u8]) -> u64
-    ensures { λ r. ⌜ Reads (delivered (map (encode Sort.Faces) (normalOf (readAll Sort.Faces (now (f .entry))))) (now (out .entry))) r (now (out .exit)) ⌝ }
+    ensures { λ r. ⌜ Reads (delivered (map (encode Sort.Faces) (normalOf (now (f .entry)))) (now (out .entry))) r (now (out .exit)) ⌝ }
 {
     numbers::length(normal::length(normal::normal(f, out)))
 }

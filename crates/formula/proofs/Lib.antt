@@ -3,6 +3,7 @@ pub mod Compare
 pub mod Meaning
 pub mod Measuring
 pub mod Nodes
+pub mod Operands
 pub mod Reading
 pub mod StepLaws
 pub mod WalkLaws

@@ -7,7 +7,7 @@ use mathlib.Core.List.{List, [], _∷_}
 use lib.Dec.{leb, eqb}
 use lib.ListN.{length, getD, drop}
 use lib.Seq.{sets}
-use Rattle.refusals.specs.declared.Refusal.the-variants.{NotAFormula}
+use Rattle.refusals.specs.declared.Refusal.the-variants.{NotAFormula, TooManyNodes, LargeDimension, LargeResult}
 use Rattle.refusals.specs.Refusals.{Result, refused, done}
 use Rattle.formula.specs.Formula.{ff, i0}
 use Rattle.formula.specs.Bytes.{Tree, dimWidth, dimAt, encode, Node, leaf, lit, one, two, bad, nodeOf, Got, nothing, got, read, readAll, nodes, bound, maxNodes, maxBound}
@@ -18,6 +18,8 @@ use Rattle.formula.specs.declared.Kind.{Kind}
 use Rattle.formula.specs.declared.Kind.the-variants.{Nullary, Literal, Unary, Binary, Unknown}
 use Rattle.formula.specs.declared.Measured.{Measured}
 use Rattle.formula.specs.declared.Measured.the-variants.{Formula, Ill}
+use Rattle.formula.specs.declared.Sized.{Sized}
+use Rattle.formula.specs.declared.Sized.the-variants.{Fits, Refused}
 use Rattle.formula.specs.declared.Advance.{Advance}
 use Rattle.formula.specs.declared.Advance.the-variants.{Leaf, Lit, One, Two, Stuck}
 
@@ -66,11 +68,12 @@ abbrev pub saidMeasured : Measured → Result Size
 saidMeasured (Formula z) = done z
 saidMeasured Ill = refused NotAFormula
 
--- The size of the one formula that the whole list is, or refusal 2.
+-- The size of what was read, or refusal 2.
 abbrev pub sizeRead : (s : Sort) → Option (Tree s) → Result Size
 sizeRead s none = refused NotAFormula
 sizeRead s (some t) = done (sizeOf s t)
 
+-- The size of the one formula that the whole list is, or refusal 2.
 unfoldable pub measurement : Sort → List ℕ → Result Size
 measurement s l = sizeRead s (readAll s l)
 
@@ -82,11 +85,12 @@ anyTree Intervals = i0
 unfoldable pub treeOf : (s : Sort) → List ℕ → Tree s
 treeOf s l = Option·getD (readAll s l) (anyTree s)
 
--- The size of the formula that starts at a place, or refusal 2.
+-- The size of what was read off the front, or refusal 2.
 abbrev pub sizeFront : (s : Sort) → Got (Tree s) → Result Size
 sizeFront s nothing = refused NotAFormula
 sizeFront s (got t l) = done (sizeOf s t)
 
+-- The size of the formula that starts at a place, or refusal 2.
 unfoldable pub measurementAt : Sort → List ℕ → ℕ → Result Size
 measurementAt s l at = sizeFront s (read s (drop at l))
 
@@ -101,6 +105,27 @@ partAt s l at = bytesOf s (read s (drop at l))
 -- Does a size keep the limits?
 abbrev pub keeps : Size → Bool
 keeps z = leb (z .nodes) maxNodes && leb (z .bound) maxBound
+
+-- What each answer about an operand or a result says: its size, or the refusal.
+abbrev pub saidSized : Sized → Result Size
+saidSized (Fits z) = done z
+saidSized (Refused e) = refused e
+
+-- Questions 3 and 4 of what has this size, and question 5 of a result that has it.
+abbrev pub allowed : {A : Type 0} → Size → A → Result A
+allowed z a = pick (leb (z .nodes) maxNodes) (pick (leb (z .bound) maxBound) (done a) (refused LargeDimension)) (refused TooManyNodes)
+
+abbrev pub kept : {A : Type 0} → Size → A → Result A
+kept z a = pick (keeps z) (done a) (refused LargeResult)
+
+-- The formula that was read, where it keeps the limits; refusal 2 where there is none.
+abbrev pub asOperand : (s : Sort) → Option (Tree s) → Result (Tree s)
+asOperand s none = refused NotAFormula
+asOperand s (some t) = allowed (sizeOf s t) t
+
+-- Questions 2 to 4 of an operand.
+unfoldable pub operand : (s : Sort) → List ℕ → Result (Tree s)
+operand s l = asOperand s (readAll s l)
 
 -- Are two lists of bytes equal?
 unfoldable pub sameBytes : List ℕ → List ℕ → Bool

@@ -10,10 +10,12 @@ pub use node::DIM;
 pub use node::dim_at;
 pub use node::kind_of;
 pub use node::put_dim;
+use refusals::Refusal;
 pub use walk::formula_at;
 pub use walk::larger;
 pub use walk::measure;
 pub use walk::measure_at;
+pub use walk::operand;
 pub use walk::within;
 ghost use mathlib.Core.Path.{_≡_};
 ghost use Rattle.formula.specs.Answers.{stepOf};
@@ -44,6 +46,12 @@ pub struct Size {
 pub enum Measured {
     Formula(Size),
     Ill,
+}
+
+// The size of an operand or of a result, or why it is refused.
+pub enum Sized {
+    Fits(Size),
+    Refused(Refusal),
 }
 
 // A place in a row of prefix formulas: `pending` of them are still to come from byte `at` on.

@@ -2,13 +2,16 @@
 use crate::Kind;
 use crate::Measured;
 use crate::Size;
+use crate::Sized;
 use crate::Sort;
 use crate::node;
 use crate::node::DIM;
+use refusals::Refusal;
 ghost use mathlib.Core.Path.{_≡_};
 ghost use Prim.Native.Nat.{max};
 ghost use lib.ListN.{length};
-ghost use Rattle.formula.specs.Answers.{keeps, saidMeasured, measurement, measurementAt, partAt};
+ghost use Rattle.refusals.specs.Refusals.{map};
+ghost use Rattle.formula.specs.Answers.{keeps, saidMeasured, measurement, measurementAt, saidSized, allowed, operand as operandOf, sizeOf, partAt};
 ghost use Rattle.formula.specs.Walks.{walkedAt};
 
 // How far a walk has come, and what it has counted.
@@ -124,12 +127,35 @@ pub fn formula_at(sort: Sort, s: &[u8], at: usize) -> &[u8]
     }
 }
 
-// Whether a size keeps the limits: 511 nodes, and dimensions to 254.
+// Questions 3 and 4 of a size: 511 nodes, and dimensions to 254.
+fn limits(z: Size) -> Sized
+    ensures { λ r. ⌜ saidSized r ≡ allowed z z ⌝ }
+{
+    if 511 < z.nodes {
+        return Sized::Refused(Refusal::TooManyNodes);
+    }
+    if 255 < z.bound {
+        return Sized::Refused(Refusal::LargeDimension);
+    }
+    Sized::Fits(z)
+}
+
+// Whether a size keeps the limits.
 pub fn within(z: Size) -> bool
     ensures { λ r. ⌜ r ≡ keeps z ⌝ }
 {
-    if 511 < z.nodes {
-        return false;
+    match limits(z) {
+        Sized::Fits(_) => true,
+        Sized::Refused(_) => false,
     }
-    z.bound <= 255
+}
+
+// Questions 2 to 4 of one operand: its size, where it is exactly one formula of the sort and keeps the limits.
+pub fn operand(sort: Sort, s: &[u8]) -> Sized
+    ensures { λ r. ⌜ saidSized r ≡ map (sizeOf sort) (operandOf sort (now (s .entry))) ⌝ }
+{
+    match measure(sort, s) {
+        Measured::Formula(z) => limits(z),
+        Measured::Ill => Sized::Refused(Refusal::NotAFormula),
+    }
 }

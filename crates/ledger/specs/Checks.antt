@@ -21,11 +21,6 @@ abbrev pub stepCount : Option (List Step) → Result ℕ
 stepCount none = refused IllFormedLedger
 stepCount (some L) = done (length L)
 
--- For private contracts: the answer for what was read.
-abbrev pub counted : Option (List Step) → Checked
-counted none = Ill
-counted (some L) = Steps (length L)
-
--- For a private contract: the answer for the steps whose records fill a list.
-unfoldable pub recordsIn : List ℕ → Checked
-recordsIn l = counted (wholly (readSteps (length l) 0 l))
+-- For a private contract: how many steps' records fill a list, or refusal 1.
+unfoldable pub recordsIn : List ℕ → Result ℕ
+recordsIn l = stepCount (wholly (readSteps (length l) 0 l))

@@ -6,7 +6,7 @@ ghost use Rattle.ledger.specs.Checks.{saidChecked, stepCount, recordsIn}
 
 // The number of the steps whose records fill the bytes.
 fn count_records(s: &[u8]) -> Checked
-    ensures { λ r. ⌜ r ≡ recordsIn (now (s .entry)) ⌝ }
+    ensures { λ r. ⌜ saidChecked r ≡ recordsIn (now (s .entry)) ⌝ }
 {
     let mut at: usize = 0;
     let mut i: usize = 0;

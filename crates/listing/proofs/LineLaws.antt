@@ -32,7 +32,7 @@ use Rattle.ledger.proofs.LedgerLaws.{formed-at-0, many, place-next, place-end}
 use Rattle.ledger.proofs.PointLaws.{points-entry}
 use Rattle.refusals.specs.declared.Refusal.the-variants.{IllFormedLedger, ShortOutput}
 use Rattle.refusals.specs.Refusals.{refused, done}
-use Rattle.ledger.specs.Checks.{counted as checked}
+use Rattle.ledger.specs.Checks.{saidChecked, stepCount}
 use Rattle.ledger.specs.declared.Checked.{Checked}
 use Rattle.ledger.specs.declared.Checked.the-variants.{Steps, Ill}
 use Rattle.text.specs.Answers.{delivered, saidLength}
@@ -277,18 +277,18 @@ line-shows {l} {i} {step} {at} h k e f =
     record { points = p; room = line-room p }
 
 -- What is answered of a step, by the check of the ledger.
-module _ {l : List ℕ} {r : Checked} (e : r ≡ checked (readLedger l)) where
+module _ {l : List ℕ} {r : Checked} (e : saidChecked r ≡ stepCount (readLedger l)) where
   pub step-ill : (i : ℕ) (out : List ℕ) → r ≡ Ill → WritesStep l i out (Refused IllFormedLedger) out
-  step-ill i out h = record { equal = go (readLedger l) (sym e ∙ h) }
+  step-ill i out h = record { equal = go (readLedger l) (sym e ∙ ap saidChecked h) }
     where
-      go : (o : Option (List Step)) → checked o ≡ Ill → delivered (lineOf o i) out ≡ record { answer = refused IllFormedLedger; output = out }
+      go : (o : Option (List Step)) → stepCount o ≡ refused IllFormedLedger → delivered (lineOf o i) out ≡ record { answer = refused IllFormedLedger; output = out }
       go none k = refl
       go (some L) k = absurd (let z : _≡_ {A = ℕ} 0 1 = cc in omega arith)
 
   pub step-past : (i : ℕ) (out : List ℕ) {n : ℕ} → r ≡ Steps n → n ≤ i → WritesStep l i out (Bytes 0) out
-  step-past i out {n} h k = record { equal = go (readLedger l) (sym e ∙ h) }
+  step-past i out {n} h k = record { equal = go (readLedger l) (sym e ∙ ap saidChecked h) }
     where
-      go : (o : Option (List Step)) → checked o ≡ Steps n → delivered (lineOf o i) out ≡ record { answer = done 0; output = out }
+      go : (o : Option (List Step)) → stepCount o ≡ done n → delivered (lineOf o i) out ≡ record { answer = done 0; output = out }
       go none q = absurd (let z : _≡_ {A = ℕ} 0 1 = cc in omega arith)
       go (some L) q =
           let m : length L ≡ n = cc in
@@ -296,9 +296,9 @@ module _ {l : List ℕ} {r : Checked} (e : r ≡ checked (readLedger l)) where
 
   pub step-in : (i : ℕ) {out out′ : List ℕ} {x : Length} {n : ℕ} → r ≡ Steps n → i < n → Delivers (lineText i (stepOf l i)) out x out′ → WritesStep l i out x out′
   unfolding stepsOf
-  step-in i {out} {out′} {x} {n} h k d = record { equal = go (readLedger l) refl (sym e ∙ h) }
+  step-in i {out} {out′} {x} {n} h k d = record { equal = go (readLedger l) refl (sym e ∙ ap saidChecked h) }
     where
-      go : (o : Option (List Step)) → readLedger l ≡ o → checked o ≡ Steps n → delivered (lineOf o i) out ≡ record { answer = saidLength x; output = out′ }
+      go : (o : Option (List Step)) → readLedger l ≡ o → stepCount o ≡ done n → delivered (lineOf o i) out ≡ record { answer = saidLength x; output = out′ }
       go none i q = absurd (let z : _≡_ {A = ℕ} 0 1 = cc in omega arith)
       go (some L) j q =
           let m : length L ≡ n = cc in

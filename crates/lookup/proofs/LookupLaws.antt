@@ -16,34 +16,30 @@ use Rattle.calculus.specs.Rules.{stepAt, judgementAt, AllBelow}
 use Rattle.calculus.specs.Record.{operandBytes, maxLedger}
 use Rattle.calculus.specs.Parse.{readLedger, operandsOf, operandsAt}
 use Rattle.calculus.proofs.Records.{read-ledger, ledger-read, operands-past, operands-ill-formed}
-use Rattle.ledger.specs.Checks.{counted}
-use Rattle.ledger.specs.declared.Checked.the-variants.{Steps, Ill}
+use Rattle.ledger.specs.Checks.{stepCount}
 use Rattle.ledger.specs.Ledger.{stepsIn, stepsOf, Led, placeOf}
 use Rattle.ledger.proofs.LedgerLaws.{holds-led, formed-at-0, below-one}
-use Rattle.ledger.proofs.CheckLaws.{sought-points}
+use Rattle.ledger.proofs.CheckLaws.{counted-steps, sought-points}
 use Rattle.ledger.proofs.PointLaws.{inside, points-operands}
 use Rattle.kinds.specs.Kinds.{nameBytes}
-use Rattle.refusals.specs.declared.Refusal.the-variants.{ShortOutput}
+use Rattle.refusals.specs.declared.Refusal.the-variants.{IllFormedLedger, ShortOutput}
+use Rattle.refusals.specs.Refusals.{refused, done}
 use Rattle.text.specs.declared.Length.the-variants.{Bytes, Refused}
 use Rattle.writing.specs.Writing.{Wrote}
 use Rattle.writing.proofs.DeliverLaws.{short-delivers, wrote-delivers}
 use Rattle.lookup.specs.Lookup.{operandsStart, operandsLength, kindOf, referenceOf, WritesRule}
 
--- How many steps there are, by the answer of the check.
-counted-steps : (o : Option (List Step)) {n : ℕ} → counted o ≡ Steps n → length (stepsIn o) ≡ n
-counted-steps none h = absurd (let z : _≡_ {A = ℕ} 0 1 = cc in omega arith)
-counted-steps (some L) h = cc
-
-counted-ill : (o : Option (List Step)) → counted o ≡ Ill → stepsIn o ≡ []
+-- No step where the check refuses.
+counted-ill : (o : Option (List Step)) → stepCount o ≡ refused IllFormedLedger → stepsIn o ≡ []
 counted-ill none h = refl
 counted-ill (some L) h = absurd (let z : _≡_ {A = ℕ} 0 1 = cc in omega arith)
 
 module _ (l : List ℕ) (i : ℕ) where
-  pub has-counted : {n : ℕ} → counted (readLedger l) ≡ Steps n → ltb i n ≡ ltb i (length (stepsOf l))
+  pub has-counted : {n : ℕ} → stepCount (readLedger l) ≡ done n → ltb i n ≡ ltb i (length (stepsOf l))
   unfolding stepsOf
-  has-counted h = ap (ltb i) (sym (counted-steps (readLedger l) h))
+  has-counted h = ap (ltb i) (sym (counted-steps l h))
 
-  pub has-ill : counted (readLedger l) ≡ Ill → false ≡ ltb i (length (stepsOf l))
+  pub has-ill : stepCount (readLedger l) ≡ refused IllFormedLedger → false ≡ ltb i (length (stepsOf l))
   unfolding stepsOf
   has-ill h = sym (ap (λ (L : List Step). ltb i (length L)) (counted-ill (readLedger l) h) ∙ le-ltb i 0 (omega arith))
 

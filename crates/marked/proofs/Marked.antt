@@ -13,7 +13,7 @@ use Rattle.formula.specs.Formula.{lo, hi, Face, at, Interval, vu, Assignment, h
 use Rattle.formula.specs.Operations
 use Rattle.formula.specs.Operations.{ftransform}
 use Rattle.formula.specs.Bytes.{encode, nodesFace, nodesInterval, boundFace, boundInterval, maxNodes, maxBound}
-use Rattle.formula.specs.Answers.{sizeOf, keeps}
+use Rattle.formula.specs.Answers.{sizeOf, keeps, operand}
 use Rattle.formula.proofs.Meaning.{boundary-holds, forall-holds, ftransform-holds}
 use Rattle.formula.proofs.Reading.{readAll-encode}
 use Rattle.calculus.specs.Judgement
@@ -82,7 +82,7 @@ module _ (d : ℕ) (a b : Face) where
 
 normalised : (f g : Face) (l : List Clause) → dnf f ≡ some l → disjunction l ≡ g → (leb (nodesFace f) maxNodes && (leb (boundFace f) maxBound && keeps (sizeOf Faces g))) ≡ true
     → Right (normal f gives yes-with (g ∷ []))
-unfolding Normal.normal
+unfolding Normal.normal operand
 normalised f g l e i s =
     let n : Normal.normal f ≡ some g = rw (e, i) in
     let p = and-eq-true-iff (leb (nodesFace f) maxNodes) (leb (boundFace f) maxBound && keeps (sizeOf Faces g)) .0 s in

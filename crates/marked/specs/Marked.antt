@@ -8,7 +8,7 @@ use Prim.Native.Nat.{ℕ, _≤_, _<_, max}
 use lib.Seq.{sets}
 use Rattle.formula.specs.declared.Sort.the-variants.{Faces, Intervals}
 use Rattle.formula.specs.Formula.{lo, hi, Face, ff, ft, at, fand, for, Interval, i0, dim, neg, meet, join, Assignment, holds}
-use Rattle.formula.specs.Bytes.{encode, readAll, nodesInterval, boundFace, boundInterval, maxNodes, maxBound}
+use Rattle.formula.specs.Bytes.{encode, nodesInterval, boundFace, boundInterval, maxNodes, maxBound}
 use Rattle.formula.specs.Answers.{sizeOf}
 use Rattle.calculus.specs.Judgement
 use Rattle.calculus.specs.Judgement.{Step}
@@ -118,7 +118,7 @@ pub data Forms (out : List ℕ) : Expected → Formed → Type 0 where
 -- The call answers so, as its contract has it, with the formulas' bytes as operands and any output slices. 1,000 bytes have room for its steps, and 1,000,000 for those of any interval of 511 nodes.
 abbrev pub Answers : Row → Type 0
 Answers (entails d a b gives x) = OnLedgers 1000 (Door.entails d (encode Faces a) (encode Faces b)) x
-Answers (normal f gives x) = (out : List ℕ) → Fits x (out ∷ []) → Forms out x (put (normalOf (readAll Faces (encode Faces f))) out)
+Answers (normal f gives x) = (out : List ℕ) → Fits x (out ∷ []) → Forms out x (put (normalOf (encode Faces f)) out)
 Answers (forall k f gives x) = (out : List ℕ) → OnLedgers 1000 (Door.forall (encode Faces f) k out) x
 Answers (boundary r gives x) = (out₀ out₁ : List ℕ) → OnLedgers 1000 (Door.boundary (encode Intervals r) out₀ out₁) x
 Answers (shift k f gives x) = (out : List ℕ) → OnLedgers 1000 (Door.shift Faces (encode Faces f) k out) x

@@ -16,11 +16,15 @@ use Rattle.formula.specs.declared.Size.{Size}
 use Rattle.formula.specs.declared.Measured.{Measured}
 use Rattle.formula.specs.declared.Measured.the-variants.{Ill}
 use Rattle.formula.specs.Bytes.{encode, encodeFace, readAll, nodes, nodesFace, bound, maxNodes, maxBound}
-use Rattle.formula.specs.Answers.{pick, sizeOf, keeps, saidMeasured, measurement}
-use Rattle.formula.proofs.Measuring.{measuredAs, measured, measured-as, Sized}
+use Rattle.formula.specs.Answers.{pick, sizeOf, keeps, saidMeasured, measurement, saidSized, kept, operand}
+use Rattle.formula.specs.declared.Sized.{Sized}
+use Rattle.formula.specs.declared.Sized.the-variants.{Fits, Refused as Refusing}
+use Rattle.formula.proofs.Measuring.{measuredAs, measured, measured-as, WholeSize}
+use Rattle.formula.proofs.Operands.{Fitted, sized-fits, sized-refused, Opened, opened, opened-limits}
 use Rattle.formula.proofs.Reading.{readAll-encode, encode-readAll, encode-pos}
-use Rattle.refusals.specs.declared.Refusal.the-variants.{NotAFormula, TooManyNodes, LargeDimension, LargeResult, ShortOutput}
-use Rattle.refusals.specs.Refusals.{Result, refused, done, map}
+use Rattle.refusals.specs.declared.Refusal.{Refusal}
+use Rattle.refusals.specs.declared.Refusal.the-variants.{LargeResult, ShortOutput}
+use Rattle.refusals.specs.Refusals.{Result, refused, done, map, ofOne}
 use Rattle.text.specs.Answers.{Delivered, delivered, saidLength}
 use Rattle.text.specs.declared.Length.{Length}
 use Rattle.clauses.specs.Normal.{normal}
@@ -33,7 +37,7 @@ use Rattle.normal.specs.Delivering.{IsFace, Delivers, Gives}
 
 -- ---- a face that was made, delivered
 
-face-size : {l : List ℕ} {z : Size} → Sized Faces l z → (g : Formula.Face) → l ≡ encodeFace g → z ≡ sizeOf Faces g
+face-size : {l : List ℕ} {z : Size} → WholeSize Faces l z → (g : Formula.Face) → l ≡ encodeFace g → z ≡ sizeOf Faces g
 face-size s g e = sym (s .size) ∙ ap (sizeOf Faces) (Option·some-injective _ _ (sym (s .whole) ∙ ap (readAll Faces) e ∙ readAll-encode Faces g))
 
 limited-by : (g : Formula.Face) (out : List ℕ) {b : Bool} → keeps (sizeOf Faces g) ≡ b → put (limited (some g)) out ≡ put (pick b (done g) (refused LargeResult)) out
@@ -42,7 +46,7 @@ limited-by g out e = ap (λ b. put (pick b (done g) (refused LargeResult)) out) 
 put-by : (g : Formula.Face) (out : List ℕ) {b : Bool} → leb (length (encodeFace g)) (length out) ≡ b → put (done g) out ≡ pick b (record { answer = done (sizeOf Faces g); output = sets out 0 (encodeFace g) }) (record { answer = refused ShortOutput; output = out })
 put-by g out e = ap (λ b. pick b (record { answer = done (sizeOf Faces g); output = sets out 0 (encodeFace g) }) (record { answer = refused ShortOutput; output = out })) e
 
-module _ {l : List ℕ} {z : Size} (s : Sized Faces l z) where
+module _ {l : List ℕ} {z : Size} (s : WholeSize Faces l z) where
   kept-as : {b : Bool} → keeps z ≡ b → (g : Formula.Face) → l ≡ encodeFace g → keeps (sizeOf Faces g) ≡ b
   kept-as h g e = ap keeps (sym (face-size s g e)) ∙ h
 
@@ -129,40 +133,24 @@ module _ {f l : List ℕ} {n : ℕ} {l′ : List ℕ} (p : Normals f l n l′) w
 
 -- ---- the questions before
 
-pub normal-ill : {f out : List ℕ} {m : Measured} → saidMeasured m ≡ measurement Faces f → m ≡ Ill → Normalises f out (Refused NotAFormula) out
-unfolding measured
-normal-ill {f} {out} e i = record { equal = go (readAll Faces f) (sym (measured-as Faces f e) ∙ i) }
-  where
-    go : (o : Option Formula.Face) → measuredAs Faces o ≡ Ill → put (normalOf o) out ≡ record { answer = refused NotAFormula; output = out }
-    go none k = refl
-    go (some t) k = absurd (let q : _≡_ {A = ℕ} 0 1 = cc in omega arith)
+pub normal-refused : (f : List ℕ) {out : List ℕ} {r : Sized} {q : Refusal} → saidSized r ≡ map (sizeOf Faces) (operand Faces f) → r ≡ Refusing q → Normalises f out (Refused q) out
+normal-refused f {out} e i = record { equal = ap (λ x. put (ofOne (λ g. limited (normal g)) x) out) (sized-refused Faces (operand Faces f) e i) }
 
-module _ {f : List ℕ} {z : Size} (s : Sized Faces f z) where
+module _ (f : List ℕ) {r : Sized} {z : Size} (e : saidSized r ≡ map (sizeOf Faces) (operand Faces f)) (i : r ≡ Fits z) where
+  abbrev s : Fitted Faces (operand Faces f) z
+  s = sized-fits Faces (operand Faces f) e i
+
+  abbrev o : Opened Faces f (s .tree)
+  o = opened Faces f (s .tree) (s .is)
+
   tree-nodes : nodesFace (s .tree) ≡ z .nodes
   tree-nodes = ap (λ (y : Size). y .nodes) (s .size)
 
-  tree-bound : bound Faces (s .tree) ≡ z .bound
-  tree-bound = ap (λ (y : Size). y .bound) (s .size)
+  pub normal-whole : Whole f (z .nodes) 1024
+  normal-whole = let k = opened-limits Faces o in record { face = s .tree; bytes = o .bytes; nodes = sym tree-nodes; few = omega (arith, k .0, tree-nodes); low = k .1; writes = omega arith }
 
-  asked : (out : List ℕ) {x y : Bool} → leb (nodes Faces (s .tree)) maxNodes ≡ x → leb (bound Faces (s .tree)) maxBound ≡ y
-      → put (normalOf (readAll Faces f)) out ≡ put (pick x (pick y (limited (normal (s .tree))) (refused LargeDimension)) (refused TooManyNodes)) out
-  asked out e i = ap (λ o. put (normalOf o) out) (s .whole) ∙ ap₂ (λ (x y : Bool). put (pick x (pick y (limited (normal (s .tree))) (refused LargeDimension)) (refused TooManyNodes)) out) e i
-
-  pub normal-many : {out : List ℕ} → 511 < z .nodes → Normalises f out (Refused TooManyNodes) out
-  normal-many {out} h = record { equal = asked out (lt-leb (nodesFace (s .tree)) maxNodes (omega (arith, h, tree-nodes))) refl }
-
-  pub normal-high : {out : List ℕ} → z .nodes ≤ 511 → 255 < z .bound → Normalises f out (Refused LargeDimension) out
-  normal-high {out} h k = record { equal = asked out (le-leb (nodesFace (s .tree)) maxNodes (omega (arith, h, tree-nodes))) (lt-leb (bound Faces (s .tree)) maxBound (omega (arith, k, tree-bound))) }
-
-  pub normal-whole : z .nodes ≤ 511 → z .bound ≤ 255 → Whole f (z .nodes) 1024
-  normal-whole h k = record { face = s .tree; bytes = encode-readAll Faces f (s .tree) (s .whole); nodes = sym tree-nodes; few = h; low = omega (arith, k, tree-bound); writes = omega arith }
-
-  pub normal-gives : {out : List ℕ} {r : Normalised} {out′ : List ℕ} → z .nodes ≤ 511 → z .bound ≤ 255 → Gives f out r out′ → Normalises f out r out′
-  normal-gives {out} h k g = record {
-    equal =
-        asked out (le-leb (nodesFace (s .tree)) maxNodes (omega (arith, h, tree-nodes))) (le-leb (bound Faces (s .tree)) maxBound (omega (arith, k, tree-bound)))
-        ∙ g .it (s .tree) (encode-readAll Faces f (s .tree) (s .whole));
-  }
+  pub normal-gives : {out : List ℕ} {x : Normalised} {out′ : List ℕ} → Gives f out x out′ → Normalises f out x out′
+  normal-gives {out} g = record { equal = ap (λ x. put (ofOne (λ g. limited (normal g)) x) out) (s .is) ∙ g .it (s .tree) (o .bytes) }
 
 -- ---- the length alone
 
@@ -179,8 +167,8 @@ lengths (done g) out = go (leb (length (encodeFace g)) (length out)) (record { a
     go false x y = refl
 
 -- What is delivered where the length alone is answered.
-pub normal-length : {f out : List ℕ} {r : Normalised} {out′ : List ℕ} (n : Length) → Normalises f out r out′ → saidLength n ≡ map (λ (z : Size). z .len) (said r) → delivered (map (encode Faces) (normalOf (readAll Faces f))) out ≡ record { answer = saidLength n; output = out′ }
+pub normal-length : {f out : List ℕ} {r : Normalised} {out′ : List ℕ} (n : Length) → Normalises f out r out′ → saidLength n ≡ map (λ (z : Size). z .len) (said r) → delivered (map (encode Faces) (normalOf f)) out ≡ record { answer = saidLength n; output = out′ }
 normal-length {f} {out} {r} {out′} n h e =
-    lengths (normalOf (readAll Faces f)) out
+    lengths (normalOf f) out
     ∙ ap lengthOf (h .equal)
     ∙ ap (λ (x : Result ℕ). record { answer = x; output = out′ }) (sym e)

@@ -9,10 +9,10 @@ use lib.Seq.{sets}
 use Rattle.formula.specs.Formula.{Face}
 use Rattle.formula.specs.declared.Sort.the-variants.{Faces}
 use Rattle.formula.specs.declared.Size.{Size}
-use Rattle.formula.specs.Bytes.{encode, readAll, nodes, bound, maxNodes, maxBound}
-use Rattle.formula.specs.Answers.{pick, sizeOf, keeps}
-use Rattle.refusals.specs.declared.Refusal.the-variants.{NotAFormula, TooManyNodes, LargeDimension, LargeResult, ShortOutput}
-use Rattle.refusals.specs.Refusals.{Result, refused, done}
+use Rattle.formula.specs.Bytes.{encode}
+use Rattle.formula.specs.Answers.{pick, sizeOf, kept, operand}
+use Rattle.refusals.specs.declared.Refusal.the-variants.{LargeResult, ShortOutput}
+use Rattle.refusals.specs.Refusals.{Result, refused, done, ofOne}
 use Rattle.clauses.specs.Normal.{normal}
 use Rattle.normal.specs.declared.Normalised.{Normalised}
 use Rattle.normal.specs.declared.Normalised.the-variants.{Form, Refused}
@@ -20,12 +20,11 @@ use Rattle.normal.specs.declared.Normalised.the-variants.{Form, Refused}
 -- 5 where some list has over 256 clauses before pruning, or where the normal form is beyond the limits.
 abbrev pub limited : Option Face → Result Face
 limited none = refused LargeResult
-limited (some g) = pick (keeps (sizeOf Faces g)) (done g) (refused LargeResult)
+limited (some g) = kept (sizeOf Faces g) g
 
--- The normal form of what was read: 2 where it is no face, 3 and 4 where that is beyond the limits, then 5.
-abbrev pub normalOf : Option Face → Result Face
-normalOf none = refused NotAFormula
-normalOf (some f) = pick (leb (nodes Faces f) maxNodes) (pick (leb (bound Faces f) maxBound) (limited (normal f)) (refused LargeDimension)) (refused TooManyNodes)
+-- The normal form of the face that the bytes are: 2 where they are none, 3 and 4 where it is beyond the limits, then 5.
+abbrev pub normalOf : List ℕ → Result Face
+normalOf l = ofOne (λ f. limited (normal f)) (operand Faces l)
 
 -- The length, nodes and bound of a normal form, or a refusal, and the output's bytes.
 pub record Formed : Type 0 where
@@ -44,4 +43,4 @@ said (Refused e) = refused e
 
 -- The answer and every byte of the output are those for the normal form of the face that the bytes are.
 pub record Normalises (f out : List ℕ) (r : Normalised) (out′ : List ℕ) : Type 0 where
-  pub equal : put (normalOf (readAll Faces f)) out ≡ record { answer = said r; output = out′ }
+  pub equal : put (normalOf f) out ≡ record { answer = said r; output = out′ }

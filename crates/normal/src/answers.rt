@@ -1,6 +1,7 @@
 // Questions 2 to 6 about a normal form.
 use crate::Normalised;
 use formula::Measured;
+use formula::Sized;
 use formula::Sort;
 use refusals::Refusal;
 use text::Length;
@@ -48,17 +49,9 @@ fn formed(f: &[u8], nodes: usize, out: &mut [u8]) -> Normalised
 pub fn normal(f: &[u8], out: &mut [u8]) -> Normalised
     ensures { λ r. ⌜ Normalises (now (f .entry)) (now (out .entry)) r (now (out .exit)) ⌝ }
 {
-    match formula::measure(Sort::Faces, f) {
-        Measured::Formula(z) => {
-            if 511 < z.nodes {
-                return Normalised::Refused(Refusal::TooManyNodes);
-            }
-            if 255 < z.bound {
-                return Normalised::Refused(Refusal::LargeDimension);
-            }
-            formed(f, z.nodes, out)
-        }
-        Measured::Ill => Normalised::Refused(Refusal::NotAFormula),
+    match formula::operand(Sort::Faces, f) {
+        Sized::Fits(z) => formed(f, z.nodes, out),
+        Sized::Refused(e) => Normalised::Refused(e),
     }
 }
 

@@ -3,82 +3,37 @@ use Prim.Native.Nat.{ℕ, _+_, _≤_, _<_, min}
 use native.Mathlib.Omega.{arith}
 use native.Mathlib.Nat.{zero-add}
 use mathlib.Core.Path.{_≡_, refl, sym, ap, ap₂, _∙_, subst, subst₂}
-use mathlib.Core.Bool.{Bool, true, false, _&&_}
-use mathlib.Core.Option.{Option, none, some}
+use mathlib.Core.Bool.{Bool, true, false}
 use mathlib.Core.List.{List, [], _∷_, _++_}
 use lib.Dec.{leb, eqb}
 use lib.ListN.{length, take, drop, replicate, length-replicate}
 use lib.Seq.{length-sets, sets-eq, take-at}
-use borrow.Author.Tests.{leb-true, le-leb, lt-leb}
+use borrow.Author.Tests.{le-leb, lt-leb}
 use Rattle.formula.specs.Formula.{End, lo, hi, Face, ff, Interval, i0}
 use Rattle.formula.specs.Operations.{boundary, forall, Op, shift, subst as substitute, transform}
 use Rattle.refusals.specs.declared.Refusal.{Refusal}
-use Rattle.refusals.specs.declared.Refusal.the-variants.{NotAFormula, TooManyNodes, LargeDimension, LargeResult, ShortOutput}
-use Rattle.refusals.specs.Refusals.{Result, refused, done, map}
-use Rattle.formula.specs.Bytes.{Tree, encode, encodeFace, encodeInterval, readAll, nodes, nodesFace, nodesInterval, bound, boundFace, boundInterval, maxNodes, maxBound}
-use Rattle.formula.specs.Answers.{pick, sizeOf, saidMeasured, sizeRead, measurement, keeps, treeOf}
-use Rattle.operations.specs.Results.{saidSized, allowed, limited, asOperand, operand, ofOne, ofTwo, foralled, boundaried, transformed, Answered, AnsweredBoth}
+use Rattle.refusals.specs.declared.Refusal.the-variants.{LargeResult, ShortOutput}
+use Rattle.refusals.specs.Refusals.{Result, refused, done, map, ofOne}
+use Rattle.formula.specs.Bytes.{Tree, encode, encodeFace, encodeInterval, nodesFace, nodesInterval, boundFace, boundInterval}
+use Rattle.formula.specs.Answers.{pick, sizeOf, keeps, saidSized, kept, operand}
+use Rattle.operations.specs.Results.{limited, ofTwo, foralled, boundaried, transformed, Answered, AnsweredBoth}
 use Rattle.passes.specs.Rewriting.{Token, tokens, tokensInterval, tokensOf, Whole, weighs, weightOf, zeroSize, plainSize, Small, spell, imageOf, Wrote, Rewritable, sides, endOf, Sided, plain, literal}
-use Rattle.operations.specs.Fitting.{allowedSize, keptSize, resizedBy, hitSize, besideRefused, keptBytes, Fitting}
+use Rattle.operations.specs.Fitting.{resizedBy, hitSize, besideRefused, keptBytes, Fitting}
 use Rattle.formula.specs.declared.Sort.{Sort}
 use Rattle.formula.specs.declared.Sort.the-variants.{Faces, Intervals}
 use Rattle.formula.specs.declared.Size.{Size}
 use Rattle.operations.specs.declared.Op.the-variants.{DShift, DSubst}
-use Rattle.formula.specs.declared.Measured.{Measured}
-use Rattle.formula.specs.declared.Measured.the-variants.{Formula, Ill}
-use Rattle.operations.specs.declared.Sized.{Sized}
-use Rattle.operations.specs.declared.Sized.the-variants.{Fits, Refused}
+use Rattle.formula.specs.declared.Sized.{Sized}
+use Rattle.formula.specs.declared.Sized.the-variants.{Fits, Refused}
 use Rattle.passes.specs.declared.Rule.{Rule}
 use Rattle.passes.specs.declared.Rule.the-variants.{Up, Down, Ends}
-use Rattle.formula.proofs.Reading.{encode-readAll}
+use Rattle.formula.proofs.Operands.{keeps-limits, limits-keep, FittedBy, with-fits, with-refused, Fitted, sized-fits, sized-refused, Opened, opened}
 use Rattle.passes.proofs.PassLaws.{wrote-as}
 use Rattle.passes.proofs.SideLaws.{sides-whole}
 use Rattle.operations.proofs.ResultLaws.{Pass, pass-size, pass-bytes, forall-pass, transform-pass, ruleOf, replacement, hitsOf, sideOf, boundary-weighs, boundary-sizes, boundary-smaller, len-short, bound-fields}
 
--- the limits, from the test
-both-true : (a b : Bool) → (a && b) ≡ true → (a ≡ true) × (b ≡ true)
-both-true true b e = (refl, e)
-both-true false b e = (cc, cc)
-
-pub keeps-limits : (z : Size) → keeps z ≡ true → (z .nodes ≤ 511) × (z .bound ≤ 255)
-keeps-limits z e = let h = both-true (leb (z .nodes) 511) (leb (z .bound) 255) e in (leb-true (z .nodes) 511 (h .0), leb-true (z .bound) 255 (h .1))
-
-limits-keep : (z : Size) → z .nodes ≤ 511 → z .bound ≤ 255 → keeps z ≡ true
-limits-keep z h g = rw (le-leb (z .nodes) 511 h, le-leb (z .bound) 255 g)
-
--- what a size says of what it is of
-module _ {A : Type 0} (f : A → Size) where
-  pub record FittedBy (x : Result A) (z : Size) : Type 0 where
-    pub tree : A
-    pub is : x ≡ done tree
-    pub size : f tree ≡ z
-
-  pub with-fits : (x : Result A) (z : Size) → map f x ≡ done z → FittedBy x z
-  with-fits (refused e) z i = absurd (let a : _≡_ {A = ℕ} 0 1 = cc in omega arith)
-  with-fits (done t) z i = record { tree = t; is = refl; size = done-same i }
-    where
-      done-same : {a b : Size} → done a ≡ done b → a ≡ b
-      done-same e = cc
-
-  pub with-refused : (x : Result A) (e : Refusal) → map f x ≡ refused e → x ≡ refused e
-  with-refused (refused q) e i = ap refused (refused-same i)
-    where
-      refused-same : {q e : Refusal} → _≡_ {A = Result Size} (refused q) (refused e) → q ≡ e
-      refused-same i = cc
-  with-refused (done t) e i = cc
-
 module _ (s : Sort) where
-  abbrev pub Fitted : Result (Tree s) → Size → Type 0
-  Fitted x z = FittedBy (sizeOf s) x z
-
-  -- What is said of a result that is answered, or refused.
-  pub sized-fits : (x : Result (Tree s)) {r : Sized} {z : Size} → saidSized r ≡ map (sizeOf s) x → r ≡ Fits z → Fitted x z
-  sized-fits x {z = z} e i = with-fits (sizeOf s) x z (sym e ∙ ap saidSized i)
-
-  pub sized-refused : (x : Result (Tree s)) {r : Sized} {q : Refusal} → saidSized r ≡ map (sizeOf s) x → r ≡ Refused q → x ≡ refused q
-  sized-refused x {q = q} e i = with-refused (sizeOf s) x q (sym e ∙ ap saidSized i)
-
-  sized-limited : (t : Tree s) (z : Size) → sizeOf s t ≡ z → map (sizeOf s) (limited s t) ≡ keptSize z
+  sized-limited : (t : Tree s) (z : Size) → sizeOf s t ≡ z → map (sizeOf s) (limited s t) ≡ kept z z
   sized-limited t z e = rw (← e) (go (keeps (sizeOf s t)))
     where
       go : (b : Bool) → map (sizeOf s) (pick b (done t) (refused LargeResult)) ≡ pick b (done (sizeOf s t)) (refused LargeResult)
@@ -93,38 +48,7 @@ module _ (s : Sort) where
       go true i e = (cc, i)
       go false i e = (cc, cc)
 
-  -- and so does an operand
-  allowed-kept : (t u : Tree s) → allowed s t ≡ done u → (t ≡ u) × (keeps (sizeOf s t) ≡ true)
-  allowed-kept t u e = go (leb (nodes s t) maxNodes) (leb (bound s t) maxBound) refl refl e
-    where
-      go : (b c : Bool) → leb (nodes s t) maxNodes ≡ b → leb (bound s t) maxBound ≡ c → pick b (pick c (done t) (refused LargeDimension)) (refused TooManyNodes) ≡ done u
-          → (t ≡ u) × (keeps (sizeOf s t) ≡ true)
-      go true true i j e = (cc, rw (i, j))
-      go true false i j e = (cc, cc)
-      go false c i j e = (cc, cc)
-
-  -- An operand that was kept: its bytes are its formula's, and it keeps the limits.
-  pub record Opened (l : List ℕ) (t : Tree s) : Type 0 where
-    pub bytes : l ≡ encode s t
-    pub tree : treeOf s l ≡ t
-    pub limits : keeps (sizeOf s t) ≡ true
-
-  opened-read : (l : List ℕ) (t : Tree s) (r : Option (Tree s)) → readAll s l ≡ r → asOperand s r ≡ done t → Opened l t
-  unfolding treeOf
-  opened-read l t none i e = absurd (let a : _≡_ {A = ℕ} 0 1 = cc in omega arith)
-  opened-read l t (some u) i e =
-      let h = allowed-kept u t e in
-      record {
-        bytes = encode-readAll s l u i ∙ ap (encode s) (h .0);
-        tree = rw i (h .0);
-        limits = ap (λ (x : Tree s). keeps (sizeOf s x)) (sym (h .0)) ∙ h .1;
-      }
-
-  pub opened : (l : List ℕ) (t : Tree s) → operand s l ≡ done t → Opened l t
-  unfolding operand
-  opened l t e = opened-read l t (readAll s l) refl e
-
-  pub opened-whole : (l : List ℕ) (t : Tree s) → Opened l t → Whole s l
+  pub opened-whole : (l : List ℕ) (t : Tree s) → Opened s l t → Whole s l
   opened-whole l t o =
       let k = keeps-limits (sizeOf s t) (o .limits) in
       record {
@@ -132,41 +56,11 @@ module _ (s : Sort) where
         short = omega (arith, len-short s t, ap length (o .bytes));
       }
 
-  -- the size of an operand from its measure
-  allowed-sized : (t : Tree s) → map (sizeOf s) (allowed s t) ≡ allowedSize (sizeOf s t)
-  allowed-sized t = go (leb (nodes s t) maxNodes) (leb (bound s t) maxBound)
-    where
-      go : (b c : Bool) → map (sizeOf s) (pick b (pick c (done t) (refused LargeDimension)) (refused TooManyNodes)) ≡ pick b (pick c (done (sizeOf s t)) (refused LargeDimension)) (refused TooManyNodes)
-      go true true = refl
-      go true false = refl
-      go false c = refl
-
-  -- questions 2 to 4 by what was measured
-  abbrev sizedBy : Measured → Result Size
-  sizedBy (Formula z) = allowedSize z
-  sizedBy Ill = refused NotAFormula
-
-  operand-read : (l : List ℕ) {m : Measured} {x : Measured} → saidMeasured m ≡ measurement s l → m ≡ x → map (sizeOf s) (operand s l) ≡ sizedBy x
-  unfolding operand measurement
-  operand-read l {m} {x} e i = go (readAll s l) x (sym e ∙ ap saidMeasured i)
-    where
-      go : (r : Option (Tree s)) (x : Measured) → sizeRead s r ≡ saidMeasured x → map (sizeOf s) (asOperand s r) ≡ sizedBy x
-      go none Ill e = refl
-      go none (Formula z) e = absurd (let a : _≡_ {A = ℕ} 0 1 = cc in omega arith)
-      go (some t) Ill e = absurd (let a : _≡_ {A = ℕ} 0 1 = cc in omega arith)
-      go (some t) (Formula z) e = allowed-sized t ∙ ap allowedSize (let h : sizeOf s t ≡ z = cc in h)
-
-  pub operand-sized : (l : List ℕ) {m : Measured} {z : Size} → saidMeasured m ≡ measurement s l → m ≡ Formula z → map (sizeOf s) (operand s l) ≡ allowedSize z
-  operand-sized l e i = operand-read l e i
-
-  pub operand-ill : (l : List ℕ) {m : Measured} → saidMeasured m ≡ measurement s l → m ≡ Ill → map (sizeOf s) (operand s l) ≡ refused NotAFormula
-  operand-ill l e i = operand-read l e i
-
   -- the size of a result by the weight of its operand's tokens
   pub resized-kept : (rule : Rule) (hit : Size) (l : List ℕ) (t : Tree s) → operand s l ≡ done t → (z : Size) → z ≡ weighs (weightOf s rule hit) (tokensOf s l)
-      → resizedBy s rule hit (operand s l) ≡ keptSize z
+      → resizedBy s rule hit (operand s l) ≡ kept z z
   resized-kept rule hit l t e z i =
-      let k : z ≡ weighs (weightOf s rule hit) (tokens s t) = i ∙ ap (λ (u : Tree s). weighs (weightOf s rule hit) (tokens s u)) (opened l t e .tree) in
+      let k : z ≡ weighs (weightOf s rule hit) (tokens s t) = i ∙ ap (λ (u : Tree s). weighs (weightOf s rule hit) (tokens s u)) (opened s l t e .tree) in
       rw (e, k)
 
 -- the same as the size of a result of one operand
@@ -248,10 +142,10 @@ abbrev pub Replacing : Sort → Result Interval → Size → Type 0
 Replacing s x z = FittedBy (hitOf s) x z
 
 pub hit-fits : (s : Sort) (l : List ℕ) {r : Sized} {z : Size} → saidSized r ≡ hitSize s (operand Intervals l) → r ≡ Fits z → Replacing s (operand Intervals l) z
-hit-fits s l {z = z} e i = with-fits (hitOf s) (operand Intervals l) z (sym (hit-with s l) ∙ sym e ∙ ap saidSized i)
+hit-fits s l e i = with-fits (hitOf s) (operand Intervals l) (e ∙ hit-with s l) i
 
 pub hit-refused : (s : Sort) (l : List ℕ) {r : Sized} {q : Refusal} → saidSized r ≡ hitSize s (operand Intervals l) → r ≡ Refused q → operand Intervals l ≡ refused q
-hit-refused s l {q = q} e i = with-refused (hitOf s) (operand Intervals l) q (sym (hit-with s l) ∙ sym e ∙ ap saidSized i)
+hit-refused s l e i = with-refused (hitOf s) (operand Intervals l) (e ∙ hit-with s l) i
 
 pub hit-small : (s : Sort) (l : List ℕ) (z : Size) → Replacing s (operand Intervals l) z → Small z
 hit-small s l z h = subst Small (h .size) (go s)

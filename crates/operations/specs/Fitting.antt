@@ -2,33 +2,24 @@
 use Prim.Native.Nat.{ℕ, _≤_}
 use mathlib.Core.Path.{_≡_}
 use mathlib.Core.List.{List, []}
-use lib.Dec.{leb}
 use lib.ListN.{length}
 use Rattle.refusals.specs.declared.Refusal.{Refusal}
-use Rattle.refusals.specs.declared.Refusal.the-variants.{TooManyNodes, LargeDimension, LargeResult}
-use Rattle.refusals.specs.Refusals.{earlier, Result, refused, done, map}
+use Rattle.refusals.specs.Refusals.{earlier, Result, refused, done, map, ofOne}
 use Rattle.formula.specs.Formula.{lo, Interval}
 use Rattle.formula.specs.Operations.{boundary}
-use Rattle.formula.specs.Bytes.{Tree, encode, maxNodes, maxBound}
-use Rattle.formula.specs.Answers.{pick, sizeOf, keeps}
+use Rattle.formula.specs.Bytes.{Tree, encode}
+use Rattle.formula.specs.Answers.{sizeOf, kept}
 use Rattle.formula.specs.declared.Sort.{Sort}
 use Rattle.formula.specs.declared.Sort.the-variants.{Faces, Intervals}
 use Rattle.formula.specs.declared.Size.{Size}
 use Rattle.passes.specs.Rewriting.{tokens, weighs, weightOf}
 use Rattle.passes.specs.declared.Rule.{Rule}
-use Rattle.operations.specs.Results.{limited, ofOne}
-
--- questions 3 and 4 of a size, and question 5
-abbrev pub allowedSize : Size → Result Size
-allowedSize z = pick (leb (z .nodes) maxNodes) (pick (leb (z .bound) maxBound) (done z) (refused LargeDimension)) (refused TooManyNodes)
-
-abbrev pub keptSize : Size → Result Size
-keptSize z = pick (keeps z) (done z) (refused LargeResult)
+use Rattle.operations.specs.Results.{limited}
 
 -- the size of a result by the weights of the operand's tokens
 abbrev pub resizedBy : (s : Sort) → Rule → Size → Result (Tree s) → Result Size
 resizedBy s rule hit (refused e) = refused e
-resizedBy s rule hit (done t) = keptSize (weighs (weightOf s rule hit) (tokens s t))
+resizedBy s rule hit (done t) = let z = weighs (weightOf s rule hit) (tokens s t) in kept z z
 
 -- the size of what stands for a replaced literal
 abbrev pub hitSize : Sort → Result Interval → Result Size

@@ -1,50 +1,27 @@
 -- What the operations on bytes answer.
 use Prim.Native.Nat.{ℕ, min}
 use mathlib.Core.Path.{_≡_}
-use mathlib.Core.Option.{Option, none, some}
 use mathlib.Core.List.{List, _++_}
 use lib.Dec.{leb}
 use lib.ListN.{length, drop}
-use Rattle.refusals.specs.declared.Refusal.the-variants.{NotAFormula, TooManyNodes, LargeDimension, LargeResult, ShortOutput}
-use Rattle.refusals.specs.Refusals.{earlier, Result, refused, done}
+use Rattle.refusals.specs.declared.Refusal.the-variants.{ShortOutput}
+use Rattle.refusals.specs.Refusals.{earlier, Result, refused, done, ofOne}
 use Rattle.formula.specs.Formula.{End, Face}
 use Rattle.formula.specs.Operations.{boundary, forall, shift, subst, transform}
-use Rattle.formula.specs.Bytes.{Tree, encode, readAll, nodes, bound, maxNodes, maxBound}
-use Rattle.formula.specs.Answers.{pick, sizeOf, keeps}
+use Rattle.formula.specs.Bytes.{Tree, encode}
+use Rattle.formula.specs.Answers.{pick, sizeOf, saidSized, kept, operand}
 use Rattle.formula.specs.declared.Sort.{Sort}
 use Rattle.formula.specs.declared.Sort.the-variants.{Faces, Intervals}
 use Rattle.formula.specs.declared.Size.{Size}
 use Rattle.operations.specs.declared.Op.{Op as Asked}
 use Rattle.operations.specs.declared.Op.the-variants.{DShift, DSubst}
-use Rattle.operations.specs.declared.Sized.{Sized}
-use Rattle.operations.specs.declared.Sized.the-variants.{Fits, Refused}
-
--- What each answer says: the size of a result, or the refusal.
-abbrev pub saidSized : Sized → Result Size
-saidSized (Fits z) = done z
-saidSized (Refused e) = refused e
-
--- Questions 3 and 4 of an operand.
-abbrev pub allowed : (s : Sort) → Tree s → Result (Tree s)
-allowed s t = pick (leb (nodes s t) maxNodes) (pick (leb (bound s t) maxBound) (done t) (refused LargeDimension)) (refused TooManyNodes)
-
--- The formula that a list is, where it keeps the limits: questions 2 to 4.
-abbrev pub asOperand : (s : Sort) → Option (Tree s) → Result (Tree s)
-asOperand s none = refused NotAFormula
-asOperand s (some t) = allowed s t
-
-unfoldable pub operand : (s : Sort) → List ℕ → Result (Tree s)
-operand s l = asOperand s (readAll s l)
+use Rattle.formula.specs.declared.Sized.{Sized}
 
 -- Question 5 of a result.
 abbrev pub limited : (s : Sort) → Tree s → Result (Tree s)
-limited s t = pick (keeps (sizeOf s t)) (done t) (refused LargeResult)
+limited s t = kept (sizeOf s t) t
 
--- A result of one operand, and of two: each question is asked of both before the next.
-abbrev pub ofOne : {A B : Type 0} → (A → Result B) → Result A → Result B
-ofOne f (refused e) = refused e
-ofOne f (done a) = f a
-
+-- A result of two operands: each question is asked of both before the next.
 abbrev pub ofTwo : {A B C : Type 0} → (A → B → Result C) → Result A → Result B → Result C
 ofTwo f (refused e) (refused q) = refused (earlier e q)
 ofTwo f (refused e) (done b) = refused e

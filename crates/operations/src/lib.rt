@@ -1,8 +1,6 @@
 // The operations on formulas: forall, boundary, shift and substitution, each first by its size and then by its bytes.
 mod results;
 
-use formula::Size;
-use refusals::Refusal;
 pub use results::boundary;
 pub use results::boundary_size;
 pub use results::forall;
@@ -14,10 +12,4 @@ pub use results::transform_size;
 pub enum Op {
     DShift(usize),
     DSubst(usize),
-}
-
-// The size of a result, or why there is none.
-pub enum Sized {
-    Fits(Size),
-    Refused(Refusal),
 }

@@ -1,49 +1,25 @@
 // The results of the operations: first their size, then their bytes.
 use crate::Op;
-use crate::Sized;
-use formula::Measured;
 use formula::Size;
+use formula::Sized;
 use formula::Sort;
 use passes::Rule;
 use refusals::Refusal;
 ghost use mathlib.Core.Path.{_≡_};
 ghost use lib.ListN.{length};
 ghost use Rattle.formula.specs.Formula.{lo, hi};
-ghost use Rattle.formula.specs.Answers.{sizeOf};
+ghost use Rattle.formula.specs.Answers.{sizeOf, saidSized, operand};
 ghost use Rattle.refusals.specs.Refusals.{map};
-ghost use Rattle.operations.specs.Results.{saidSized, operand, foralled, boundaried, transformed, Answered, AnsweredBoth};
-ghost use Rattle.operations.specs.Fitting.{allowedSize, resizedBy, hitSize, besideRefused, Fitting, keptBytes};
+ghost use Rattle.operations.specs.Results.{foralled, boundaried, transformed, Answered, AnsweredBoth};
+ghost use Rattle.operations.specs.Fitting.{resizedBy, hitSize, besideRefused, Fitting, keptBytes};
 ghost use Rattle.passes.specs.Rewriting.{Small, Wrote};
-
-// Questions 3 and 4 of a size.
-fn allowed(z: Size) -> Sized
-    ensures { λ r. ⌜ saidSized r ≡ allowedSize z ⌝ }
-{
-    if 511 < z.nodes {
-        return Sized::Refused(Refusal::TooManyNodes);
-    }
-    if 255 < z.bound {
-        return Sized::Refused(Refusal::LargeDimension);
-    }
-    Sized::Fits(z)
-}
-
-// The size of an operand.
-fn operand_size(sort: Sort, s: &[u8]) -> Sized
-    ensures { λ r. ⌜ saidSized r ≡ map (sizeOf sort) (operand sort (now (s .entry))) ⌝ }
-{
-    match formula::measure(sort, s) {
-        Measured::Formula(z) => allowed(z),
-        Measured::Ill => Sized::Refused(Refusal::NotAFormula),
-    }
-}
 
 // The size of what an operand becomes.
 fn resized(sort: Sort, s: &[u8], rule: Rule, hit: Size) -> Sized
     requires { ⌜ Small hit ⌝ }
     ensures { λ r. ⌜ saidSized r ≡ resizedBy sort rule hit (operand sort (now (s .entry))) ⌝ }
 {
-    match operand_size(sort, s) {
+    match formula::operand(sort, s) {
         Sized::Fits(_) => {
             let z = passes::weigh(sort, s, rule, hit);
             if formula::within(z) {
@@ -93,7 +69,7 @@ fn hit_size(sort: Sort, r: &[u8]) -> Sized
 {
     match sort {
         Sort::Faces => boundary_size(r),
-        Sort::Intervals => operand_size(Sort::Intervals, r),
+        Sort::Intervals => formula::operand(Sort::Intervals, r),
     }
 }
 
@@ -113,7 +89,7 @@ fn subst_size(sort: Sort, k: usize, s: &[u8], r: &[u8]) -> Sized
 {
     match hit_size(sort, r) {
         Sized::Fits(z) => resized(sort, s, Rule::Down(k), z),
-        Sized::Refused(e) => beside(operand_size(sort, s), e),
+        Sized::Refused(e) => beside(formula::operand(sort, s), e),
     }
 }
 

@@ -20,19 +20,19 @@ number DoesNotFollow = 10
 number NotAccepted = 11
 
 -- The one with the lower number: the first no decides.
-abbrev pub firstIf : Bool → Refusal → Refusal → Refusal
-firstIf true e q = e
-firstIf false e q = q
-
 abbrev pub earlier : Refusal → Refusal → Refusal
-earlier e q = firstIf (leb (number e) (number q)) e q
+earlier e q = elim (leb (number e) (number q)) [ true ↦ e | false ↦ q ]
 
 -- What was asked for, or why it is refused. The promises of functions that answer by an enum say which of these each case is.
 pub data Result (A : Type 0) : Type 0 where
   refused : Refusal → Result A
   done : A → Result A
 
--- The same, of what is made of it.
+-- The same, of what is made of it; and of what is made of it and may be refused too.
 abbrev pub map : {A B : Type 0} → (A → B) → Result A → Result B
 map f (refused e) = refused e
 map f (done x) = done (f x)
+
+abbrev pub ofOne : {A B : Type 0} → (A → Result B) → Result A → Result B
+ofOne f (refused e) = refused e
+ofOne f (done x) = f x

@@ -17,9 +17,9 @@ use Rattle.refusals.specs.declared.Refusal.the-variants.{IllFormedLedger}
 use Rattle.refusals.specs.Refusals.{refused, done}
 use Rattle.kinds.specs.Kinds.{numberOf, predicateOf}
 use Rattle.kinds.proofs.KindLaws.{numbered}
-use Rattle.ledger.specs.declared.Checked.the-variants.{Steps, Ill}
-use Rattle.ledger.specs.Checks.{counted}
+use Rattle.ledger.specs.Checks.{stepCount}
 use Rattle.ledger.specs.Ledger.{stepsIn, stepsOf}
+use Rattle.ledger.proofs.CheckLaws.{counted-steps}
 use Rattle.repeat_test.specs.Repeats.{SameClaim, sameClaim?, lastStep, endAlike, repeatTest}
 
 pub decide-no : {A : Type 0} (d : Dec A) → (A → ⊥) → decide d ≡ false
@@ -73,20 +73,11 @@ last-at (s ∷ []) (suc i) h = absurd (omega arith)
 last-at (s ∷ (t ∷ L)) zero h = absurd (omega arith)
 last-at (s ∷ (t ∷ L)) (suc i) h = last-at (t ∷ L) i (omega arith)
 
--- As many steps as the check counts.
-pub counted-steps : (l : List ℕ) {n : ℕ} → counted (readLedger l) ≡ Steps n → length (stepsOf l) ≡ n
-unfolding stepsOf
-counted-steps l {n} h = go (readLedger l) h
-  where
-    go : (o : Option (List Step)) → counted o ≡ Steps n → length (stepsIn o) ≡ n
-    go none h = absurd (let z : _≡_ {A = ℕ} 0 1 = cc in omega arith)
-    go (some L) h = cc
-
 fresh-right : (o : Option Step) → false ≡ endAlike o none
 fresh-right none = refl
 fresh-right (some s) = refl
 
-module _ (l m : List ℕ) {n k : ℕ} (a : counted (readLedger l) ≡ Steps n) (b : counted (readLedger m) ≡ Steps k) where
+module _ (l m : List ℕ) {n k : ℕ} (a : stepCount (readLedger l) ≡ done n) (b : stepCount (readLedger m) ≡ done k) where
   pub empty-left : n ≡ 0 → false ≡ endAlike (lastStep (stepsOf l)) (lastStep (stepsOf m))
   empty-left h = sym (ap (λ (o : Option Step). endAlike o (lastStep (stepsOf m))) (last-none (stepsOf l) (counted-steps l a ∙ h)))
 
@@ -101,24 +92,24 @@ module _ (l m : List ℕ) {n k : ℕ} (a : counted (readLedger l) ≡ Steps n) (
   unfolding stepsOf
   both-read = go (readLedger l) (readLedger m) a b
     where
-      go : (o p : Option (List Step)) → counted o ≡ Steps n → counted p ≡ Steps k → repeatTest o p ≡ done (endAlike (lastStep (stepsIn o)) (lastStep (stepsIn p)))
+      go : (o p : Option (List Step)) → stepCount o ≡ done n → stepCount p ≡ done k → repeatTest o p ≡ done (endAlike (lastStep (stepsIn o)) (lastStep (stepsIn p)))
       go none p x y = absurd (let z : _≡_ {A = ℕ} 0 1 = cc in omega arith)
       go (some L) none x y = absurd (let z : _≡_ {A = ℕ} 0 1 = cc in omega arith)
       go (some L) (some M) x y = refl
 
 -- Bytes that are no ledger are refused, whatever the others are.
 module _ (l m : List ℕ) where
-  pub ill-left : counted (readLedger l) ≡ Ill → refused IllFormedLedger ≡ repeatTest (readLedger l) (readLedger m)
+  pub ill-left : stepCount (readLedger l) ≡ refused IllFormedLedger → refused IllFormedLedger ≡ repeatTest (readLedger l) (readLedger m)
   ill-left h = go (readLedger l) h
     where
-      go : (o : Option (List Step)) → counted o ≡ Ill → refused IllFormedLedger ≡ repeatTest o (readLedger m)
+      go : (o : Option (List Step)) → stepCount o ≡ refused IllFormedLedger → refused IllFormedLedger ≡ repeatTest o (readLedger m)
       go none h = refl
       go (some L) h = absurd (let z : _≡_ {A = ℕ} 0 1 = cc in omega arith)
 
-  pub ill-right : counted (readLedger m) ≡ Ill → refused IllFormedLedger ≡ repeatTest (readLedger l) (readLedger m)
+  pub ill-right : stepCount (readLedger m) ≡ refused IllFormedLedger → refused IllFormedLedger ≡ repeatTest (readLedger l) (readLedger m)
   ill-right h = go (readLedger l) (readLedger m) h
     where
-      go : (o p : Option (List Step)) → counted p ≡ Ill → refused IllFormedLedger ≡ repeatTest o p
+      go : (o p : Option (List Step)) → stepCount p ≡ refused IllFormedLedger → refused IllFormedLedger ≡ repeatTest o p
       go none p h = refl
       go (some L) none h = refl
       go (some L) (some M) h = absurd (let z : _≡_ {A = ℕ} 0 1 = cc in omega arith)

@@ -7,7 +7,8 @@ ghost use mathlib.Core.Bool.{decide};
 ghost use Rattle.calculus.specs.Rules.{judgementAt};
 ghost use Rattle.calculus.specs.Record.{operandBytes};
 ghost use Rattle.calculus.specs.Parse.{readLedger};
-ghost use Rattle.ledger.specs.Checks.{counted};
+ghost use Rattle.ledger.specs.Checks.{stepCount};
+ghost use Rattle.refusals.specs.Refusals.{done};
 ghost use Rattle.ledger.specs.Ledger.{stepsOf, Points};
 ghost use Rattle.repeat_test.specs.Repeats.{sameClaim?, lastStep, endAlike, said, repeatTest};
 
@@ -45,7 +46,7 @@ fn same_claim(l: &[u8], c: Cursor, m: &[u8], e: Cursor) -> bool
 
 // Whether ledgers of n and k steps end in the same claim.
 fn end_alike(l: &[u8], n: usize, m: &[u8], k: usize) -> bool
-    requires { ⌜ (counted (readLedger (now l)) ≡ Checked.Steps n) × (counted (readLedger (now m)) ≡ Checked.Steps k) ⌝ }
+    requires { ⌜ (stepCount (readLedger (now l)) ≡ done n) × (stepCount (readLedger (now m)) ≡ done k) ⌝ }
     ensures { λ r. ⌜ r ≡ endAlike (lastStep (stepsOf (now (l .entry)))) (lastStep (stepsOf (now (m .entry)))) ⌝ }
 {
     if 0 < n {

@@ -23,7 +23,7 @@ use Rattle.calculus.specs.Door.{Call, Task, taskOf, outputsOf, every, refuse, r
 use Rattle.calculus.proofs.Doors.{unreadable, not-read, turned-away}
 use Rattle.calculus.proofs.Records.{ledger-read}
 use Rattle.ledger.specs.Ledger.{Led}
-use Rattle.ledger.specs.Checks.{counted}
+use Rattle.ledger.specs.Checks.{saidChecked, stepCount}
 use Rattle.ledger.specs.declared.Checked.{Checked}
 use Rattle.ledger.specs.declared.Checked.the-variants.{Steps, Ill}
 use Rattle.ledger.proofs.LedgerLaws.{holds-led}
@@ -155,12 +155,14 @@ abbrev countedGate : Checked → Gate → Gate
 countedGate (Steps n) g = g
 countedGate Ill g = Shut IllFormedLedger
 
-pub opened-by : (x : Checked) (l : List ℕ) (g : Gate) → x ≡ counted (readLedger l) → countedGate x g ≡ ledgerGate (readLedger l) g
-opened-by x l g e = ap (λ (y : Checked). countedGate y g) e ∙ go (readLedger l)
+pub opened-by : (l : List ℕ) (g : Gate) {x y : Checked} → saidChecked x ≡ stepCount (readLedger l) → x ≡ y → countedGate y g ≡ ledgerGate (readLedger l) g
+opened-by l g {y = y} e i = go (readLedger l) y (sym (ap saidChecked i) ∙ e)
   where
-    go : (o : Option (List Step)) → countedGate (counted o) g ≡ ledgerGate o g
-    go none = refl
-    go (some L) = refl
+    go : (o : Option (List Step)) (y : Checked) → saidChecked y ≡ stepCount o → countedGate y g ≡ ledgerGate o g
+    go none Ill e = refl
+    go none (Steps n) e = absurd (let z : _≡_ {A = ℕ} 0 1 = cc in omega arith)
+    go (some L) Ill e = absurd (let z : _≡_ {A = ℕ} 0 1 = cc in omega arith)
+    go (some L) (Steps n) e = refl
 
 -- Questions 2 to 4 by what was measured.
 abbrev sizeGate : Measured → Bool → Gate

@@ -16,8 +16,9 @@ use Rattle.formula.specs.Formula.{Face}
 use Rattle.formula.specs.Operations
 use Rattle.formula.specs.Operations.{shift, subst, transform}
 use Rattle.formula.specs.Bytes.{Tree, readAll, nodes, bound, maxNodes, maxBound}
-use Rattle.operations.specs.Results.{limited, ofOne, ofTwo, foralled, transformed, Answered}
-use Rattle.operations.specs.declared.Sized.{Sized}
+use Rattle.refusals.specs.Refusals.{ofOne}
+use Rattle.operations.specs.Results.{limited, ofTwo, foralled, transformed, Answered}
+use Rattle.formula.specs.declared.Sized.{Sized}
 use Rattle.calculus.specs.Parse.{readLedger}
 use Rattle.calculus.specs.Record.{index, formula, fewNodes, lowBound}
 use Rattle.calculus.specs.Calls.{foralls, emitForall}

@@ -11,12 +11,12 @@ use lib.Seq.{length-take-le}
 use borrow.Author.Tests.{le-leb, lt-leb}
 use Rattle.formula.specs.declared.Sort.{Sort}
 use Rattle.formula.specs.declared.Size.{Size}
-use Rattle.operations.specs.declared.Sized.{Sized}
-use Rattle.operations.specs.declared.Sized.the-variants.{Fits, Refused}
+use Rattle.formula.specs.declared.Sized.{Sized}
+use Rattle.formula.specs.declared.Sized.the-variants.{Fits, Refused}
 use Rattle.formula.specs.Bytes.{Tree, encode, nodes, bound, maxNodes, maxBound}
-use Rattle.formula.specs.Answers.{sizeOf, keeps}
-use Rattle.operations.specs.Results.{saidSized, limited, roomed, Answered}
-use Rattle.operations.proofs.AnswerLaws.{keeps-limits}
+use Rattle.formula.specs.Answers.{sizeOf, keeps, saidSized}
+use Rattle.operations.specs.Results.{limited, roomed, Answered}
+use Rattle.formula.proofs.Operands.{keeps-limits}
 use Rattle.calculus.specs.Record.{formula, size, fewNodes, lowBound}
 use Rattle.calculus.specs.Door.{Call, Item, item, Task, taskOf, outputsOf, answered, every, longEnough}
 use Rattle.calculus.proofs.Doors.{ItemsKeep}
@@ -35,7 +35,7 @@ use Rattle.replies.specs.declared.Made.{Made}
 use Rattle.replies.specs.declared.Made.the-variants.{Refused as refusedMade}
 use Rattle.replies.specs.Replying.{measureOf, saidOne, Replies}
 use Rattle.replies.specs.Ending.{Ending, madeBy, outBy}
-use Rattle.results.specs.Calls.{Gives}
+use Rattle.results.specs.Calls.{ResultOf}
 use Rattle.replies.proofs.ReplyLaws.{finished, too-large, too-short, replied}
 
 -- What was computed: the result, or that it is over the limits.
@@ -60,10 +60,10 @@ computed s t {x} {d} {d′} {r} e w a = go (keeps (sizeOf s t)) refl
 
 -- By the answer.
 module _ {s : Sort} {t : Tree s} {d : List ℕ} {r : Sized} (c : Computed s t d r) where
-  pub result-done : (z : Size) → r ≡ Fits z → Gives s t (take (z .len) d) z × (z .len ≤ length d) × (length (take (z .len) d) ≡ z .len)
+  pub result-done : (z : Size) → r ≡ Fits z → ResultOf s t (take (z .len) d) z × (z .len ≤ length d) × (length (take (z .len) d) ≡ z .len)
   result-done z e = go c
     where
-      go : Computed s t d r → Gives s t (take (z .len) d) z × (z .len ≤ length d) × (length (take (z .len) d) ≡ z .len)
+      go : Computed s t d r → ResultOf s t (take (z .len) d) z × (z .len ≤ length d) × (length (take (z .len) d) ≡ z .len)
       go (fits p i u b) =
           let k : z ≡ sizeOf s t = (let q : done z ≡ done (sizeOf s t) = sym (ap saidSized e) ∙ p in cc) in
           let n : z .len ≡ length (encode s t) = ap (λ (y : Size). y .len) k in
@@ -102,7 +102,7 @@ module _ {c : Call} {k : Task} {s : Sort} {t : Tree s} {out l : List ℕ} (w : O
   one-large (i, b) =
       rw i (large b)
 
-  module _ {x : List ℕ} {z : Size} (h : Gives s t x z) where
+  module _ {x : List ℕ} {z : Size} (h : ResultOf s t x z) where
     keep : ItemsKeep (k .results)
     keep = subst ItemsKeep (sym (w .results)) ((h .is .few, h .is .low), tt)
 

@@ -14,8 +14,8 @@ use Rattle.formula.specs.declared.Size.{Size}
 use Rattle.formula.specs.Formula.{End, lo, hi, Interval}
 use Rattle.formula.specs.Operations
 use Rattle.formula.specs.Bytes.{encode, readAll, nodes, bound, maxNodes, maxBound}
-use Rattle.operations.specs.declared.Sized.{Sized}
-use Rattle.operations.specs.declared.Sized.the-variants.{Fits}
+use Rattle.formula.specs.declared.Sized.{Sized}
+use Rattle.formula.specs.declared.Sized.the-variants.{Fits}
 use Rattle.formula.specs.Answers.{sizeOf, treeOf}
 use Rattle.operations.specs.Results.{boundaried, AnsweredBoth}
 use Rattle.operations.proofs.ResultLaws.{boundary-sizes}

@@ -22,7 +22,7 @@ transformCall s (DShift k) t r out = Door.shift s t k out
 transformCall s (DSubst k) t r out = Door.substitute s t k r out
 
 -- The bytes x are the result t, and z is its size.
-pub record Gives (s : Sort) (t : Tree s) (x : List ℕ) (z : Size) : Type 0 where
+pub record ResultOf (s : Sort) (t : Tree s) (x : List ℕ) (z : Size) : Type 0 where
   pub is : Is s t x
   pub size : z ≡ sizeOf s t
 

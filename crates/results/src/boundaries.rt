@@ -1,7 +1,7 @@
 // boundary.
 use formula::Size;
+use formula::Sized;
 use formula::Sort;
-use operations::Sized;
 use programs::Program;
 use refusals::Refusal;
 use replies::Made;

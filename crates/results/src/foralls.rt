@@ -1,7 +1,7 @@
 // forall.
 use formula::Size;
+use formula::Sized;
 use formula::Sort;
-use operations::Sized;
 use programs::Program;
 use refusals::Refusal;
 use replies::Made;
@@ -14,11 +14,11 @@ ghost use Rattle.ledger.specs.Ledger.{Led};
 ghost use Rattle.formula.specs.Answers.{treeOf};
 ghost use Rattle.steps.specs.Trees.{Known};
 ghost use Rattle.replies.specs.Replying.{saidOne, Replies};
-ghost use Rattle.results.specs.Calls.{Gives};
+ghost use Rattle.results.specs.Calls.{ResultOf};
 
 // The call once its result is known to fit.
 fn run(l: &mut [u8], f: &[u8], k: usize, result: &[u8], z: Size, out: &mut [u8]) -> Made
-    requires { ⌜ Led (now l) × Known Sort.Faces (now f) × (k < 255) × Gives Sort.Faces (forallOf k (treeOf Sort.Faces (now f))) (now result) z × (length (now result) ≤ length (now out)) ⌝ }
+    requires { ⌜ Led (now l) × Known Sort.Faces (now f) × (k < 255) × ResultOf Sort.Faces (forallOf k (treeOf Sort.Faces (now f))) (now result) z × (length (now result) ≤ length (now out)) ⌝ }
     ensures { λ r. ⌜ Replies (forallCall (now (f .entry)) k (now (out .entry))) (now (l .entry)) (saidOne r) (now (l .exit)) (now (out .exit) ∷ []) ⌝ }
 {
     let end = ledger::used(l);

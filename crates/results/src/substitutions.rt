@@ -1,8 +1,8 @@
 // shift and substitute, once over the operation.
 use formula::Size;
+use formula::Sized;
 use formula::Sort;
 use operations::Op;
-use operations::Sized;
 use programs::Program;
 use refusals::Refusal;
 use replies::Made;
@@ -15,7 +15,7 @@ ghost use Rattle.formula.specs.Answers.{treeOf};
 ghost use Rattle.steps.specs.Trees.{Known};
 ghost use Rattle.transforms.specs.Transforms.{opOf, KnownOp};
 ghost use Rattle.replies.specs.Replying.{saidOne, Replies};
-ghost use Rattle.results.specs.Calls.{transformCall, Gives};
+ghost use Rattle.results.specs.Calls.{transformCall, ResultOf};
 
 // The call once its result is known to fit.
 fn run(
@@ -28,7 +28,7 @@ fn run(
     z: Size,
     out: &mut [u8],
 ) -> Made
-    requires { ⌜ Led (now l) × Known sort (now t) × KnownOp op (now r) × Gives sort (transformOf sort (opOf op (now r)) (treeOf sort (now t))) (now result) z × (length (now result) ≤ length (now out)) ⌝ }
+    requires { ⌜ Led (now l) × Known sort (now t) × KnownOp op (now r) × ResultOf sort (transformOf sort (opOf op (now r)) (treeOf sort (now t))) (now result) z × (length (now result) ≤ length (now out)) ⌝ }
     ensures { λ x. ⌜ Replies (transformCall sort op (now (t .entry)) (now (r .entry)) (now (out .entry))) (now (l .entry)) (saidOne x) (now (l .exit)) (now (out .exit) ∷ []) ⌝ }
 {
     let end = ledger::used(l);

@@ -1,6 +1,6 @@
 // entails and endpoint.
+use formula::Sized;
 use formula::Sort;
-use operations::Sized;
 use programs::Program;
 use replies::Called;
 ghost use mathlib.Core.List.{[]};

@@ -13,14 +13,14 @@ use Rattle.operations.specs.declared.Op.{Op as Asked}
 use Rattle.operations.specs.declared.Op.the-variants.{DShift, DSubst}
 use Rattle.formula.specs.declared.Size.{Size}
 use Rattle.refusals.specs.declared.Refusal.{Refusal}
-use Rattle.refusals.specs.Refusals.{Result, refused, done}
-use Rattle.operations.specs.declared.Sized.{Sized}
-use Rattle.operations.specs.declared.Sized.the-variants.{Fits, Refused}
+use Rattle.refusals.specs.Refusals.{Result, refused, done, ofOne}
+use Rattle.formula.specs.declared.Sized.{Sized}
+use Rattle.formula.specs.declared.Sized.the-variants.{Fits, Refused}
 use Rattle.formula.specs.Formula.{End, lo, hi}
 use Rattle.formula.specs.Operations.{boundary, shift, subst, transform}
 use Rattle.formula.specs.Bytes.{Tree, encode, nodes, bound, maxNodes, maxBound}
-use Rattle.formula.specs.Answers.{sizeOf, treeOf}
-use Rattle.operations.specs.Results.{saidSized, allowed, limited, asOperand, operand, ofOne, ofTwo, boundaried, transformed, roomed, written, Answered, AnsweredBoth}
+use Rattle.formula.specs.Answers.{sizeOf, treeOf, saidSized, allowed, asOperand, operand}
+use Rattle.operations.specs.Results.{limited, ofTwo, boundaried, transformed, roomed, written, Answered, AnsweredBoth}
 use Rattle.operations.proofs.ResultLaws.{boundary-sizes}
 use Rattle.steps.specs.Trees.{Is, Known}
 use Rattle.boundary_steps.specs.Programs.{Sides}
@@ -32,7 +32,7 @@ use Rattle.boundary_steps.proofs.BoundaryLaws.{side-is}
 pub limited-is : {s : Sort} {t : Tree s} {l : List ℕ} → Is s t l → limited s t ≡ done t
 limited-is {s} {t} h = rw (le-leb (nodes s t) maxNodes (h .few), le-leb (bound s t) maxBound (h .low)) refl
 
-allowed-is : {s : Sort} {t : Tree s} {l : List ℕ} → Is s t l → allowed s t ≡ done t
+allowed-is : {s : Sort} {t : Tree s} {l : List ℕ} → Is s t l → allowed (sizeOf s t) t ≡ done t
 allowed-is {s} {t} h = rw (le-leb (nodes s t) maxNodes (h .few), le-leb (bound s t) maxBound (h .low)) refl
 
 pub operand-known : {s : Sort} {l : List ℕ} → Known s l → operand s l ≡ done (treeOf s l)

@@ -1,9 +1,9 @@
 // The judgements of a transformed formula, beside the bytes of the result.
 use formula::Advance;
 use formula::Place;
+use formula::Sized;
 use formula::Sort;
 use operations::Op;
-use operations::Sized;
 use steps::Paired;
 use steps::Ran;
 ghost use mathlib.Core.Path.{_≡_};

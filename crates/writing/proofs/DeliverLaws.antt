@@ -4,7 +4,6 @@ use native.Mathlib.Omega.{arith}
 use native.Mathlib.Nat.{zero-add}
 use mathlib.Core.Path.{_≡_, refl, sym, ap, ap₂, _∙_}
 use mathlib.Core.Bool.{Bool, true, false}
-use mathlib.Core.Option.{Option, none, some}
 use mathlib.Core.List.{List, [], append-nil}
 use borrow.Author.Tests.{le-leb, lt-leb}
 use lib.Dec.{leb}
@@ -12,20 +11,21 @@ use lib.ListN.{length}
 use lib.Seq.{sets}
 use Rattle.formula.specs.declared.Sort.{Sort}
 use Rattle.formula.specs.declared.Size.{Size}
-use Rattle.formula.specs.declared.Measured.{Measured}
-use Rattle.formula.specs.declared.Measured.the-variants.{Formula, Ill}
-use Rattle.formula.specs.Bytes.{Tree, encode, got, read, readAll, nodes, bound, maxNodes, maxBound}
-use Rattle.formula.specs.Answers.{pick, sizeOf, saidMeasured, measurement}
-use Rattle.formula.proofs.Measuring.{measuredAs, measured, measured-as, Sized}
-use Rattle.formula.proofs.Reading.{read-encode, encode-readAll}
-use Rattle.refusals.specs.declared.Refusal.the-variants.{NotAFormula, TooManyNodes, LargeDimension, ShortOutput}
-use Rattle.refusals.specs.Refusals.{refused, done}
+use Rattle.formula.specs.declared.Sized.{Sized}
+use Rattle.formula.specs.declared.Sized.the-variants.{Fits, Refused as Refusing}
+use Rattle.formula.specs.Bytes.{encode, got, read}
+use Rattle.formula.specs.Answers.{pick, sizeOf, saidSized, operand}
+use Rattle.formula.proofs.Reading.{read-encode}
+use Rattle.formula.proofs.Operands.{Fitted, sized-fits, sized-refused, Opened, opened, opened-limits}
+use Rattle.refusals.specs.declared.Refusal.{Refusal}
+use Rattle.refusals.specs.declared.Refusal.the-variants.{ShortOutput}
+use Rattle.refusals.specs.Refusals.{refused, done, map}
 use Rattle.text.specs.Answers.{delivered}
 use Rattle.text.specs.Wholes.{Delivers}
 use Rattle.text.specs.declared.Length.{Length}
 use Rattle.text.specs.declared.Length.the-variants.{Bytes, Refused}
 use Rattle.writing.specs.Texts.{formulaText}
-use Rattle.writing.specs.Answers.{written, WritesInto}
+use Rattle.writing.specs.Answers.{WritesInto}
 use Rattle.writing.specs.Writing.{Wrote, FormulaFronts, FormulaPrints, Delivered}
 use Rattle.writing.specs.declared.Place.{Place}
 use Rattle.writing.proofs.TextLaws.{text-long}
@@ -56,46 +56,29 @@ pub sized-wrote : {s : Sort} {l z z′ out out′ : List ℕ} {p q : Place} → 
 sized-wrote g h k = record { it = λ t m r. wrote-delivers (g .it t m r .wrote) h (k .it t m r .wrote) }
 
 -- Nothing but a formula within the limits is written.
-pub writes-ill : (s : Sort) {f : List ℕ} (out : List ℕ) {m : Measured} → saidMeasured m ≡ measurement s f → m ≡ Ill → WritesInto s f out (Refused NotAFormula) out
-unfolding measured
-writes-ill s {f} out e i = record { equal = go (readAll s f) (sym (measured-as s f e) ∙ i) }
-  where
-    go : (o : Option (Tree s)) → measuredAs s o ≡ Ill → delivered (written s o) out ≡ record { answer = refused NotAFormula; output = out }
-    go none k = refl
-    go (some t) k = absurd (let q : _≡_ {A = ℕ} 0 1 = cc in omega arith)
+pub writes-refused : (s : Sort) (f out : List ℕ) {r : Sized} {q : Refusal} → saidSized r ≡ map (sizeOf s) (operand s f) → r ≡ Refusing q → WritesInto s f out (Refused q) out
+writes-refused s f out e i = record { equal = ap (λ x. delivered (map (formulaText s) x) out) (sized-refused s (operand s f) e i) }
 
-module _ (s : Sort) {f : List ℕ} {z : Size} (h : Sized s f z) where
-  told : (out : List ℕ) (x y : Bool) → leb (nodes s (h .tree)) maxNodes ≡ x → leb (bound s (h .tree)) maxBound ≡ y
-      → delivered (written s (readAll s f)) out ≡ delivered (pick x (pick y (done (formulaText s (h .tree))) (refused LargeDimension)) (refused TooManyNodes)) out
-  told out x y i j =
-      ap (λ (o : Option (Tree s)). delivered (written s o) out) (h .whole)
-      ∙ ap₂ (λ (x y : Bool). delivered (pick x (pick y (done (formulaText s (h .tree))) (refused LargeDimension)) (refused TooManyNodes)) out) i j
+module _ (s : Sort) (f : List ℕ) {r : Sized} {z : Size} (e : saidSized r ≡ map (sizeOf s) (operand s f)) (i : r ≡ Fits z) where
+  abbrev h : Fitted s (operand s f) z
+  h = sized-fits s (operand s f) e i
 
-  few : nodes s (h .tree) ≡ z .nodes
-  few = ap (λ (z : Size). z .nodes) (h .size)
-
-  low : bound s (h .tree) ≡ z .bound
-  low = ap (λ (z : Size). z .bound) (h .size)
-
-  pub writes-many : (out : List ℕ) → maxNodes < z .nodes → WritesInto s f out (Refused TooManyNodes) out
-  writes-many out i = record { equal = told out false (leb (bound s (h .tree)) maxBound) (lt-leb (nodes s (h .tree)) maxNodes (omega (arith, few))) refl }
-
-  pub writes-high : (out : List ℕ) → z .nodes ≤ maxNodes → maxBound < z .bound → WritesInto s f out (Refused LargeDimension) out
-  writes-high out i j = record { equal = told out true false (le-leb (nodes s (h .tree)) maxNodes (omega (arith, few))) (lt-leb (bound s (h .tree)) maxBound (omega (arith, low))) }
+  abbrev o : Opened s f (h .tree)
+  o = opened s f (h .tree) (h .is)
 
   -- It stands in front of them, with nothing behind it.
   reads-front : read s f ≡ got (h .tree) []
-  reads-front = ap (read s) (encode-readAll s f (h .tree) (h .whole) ∙ sym (append-nil (encode s (h .tree)))) ∙ read-encode s (h .tree) []
+  reads-front = ap (read s) (o .bytes ∙ sym (append-nil (encode s (h .tree)))) ∙ read-encode s (h .tree) []
 
-  pub writes-front : z .nodes ≤ maxNodes → z .bound ≤ maxBound → FormulaFronts s f 0
-  writes-front i j =
+  pub writes-front : FormulaFronts s f 0
+  writes-front =
+      let k = opened-limits s o in
       record {
         value = h .tree;
         rest = [];
         reads = reads-front;
-        room = record { fits = omega (arith, text-long s (h .tree) (omega (arith, low)), few) };
+        room = record { fits = omega (arith, text-long s (h .tree) (omega (arith, k .1)), k .0) };
       }
 
-  pub writes-in : {out out′ : List ℕ} {r : Length} → (i : z .nodes ≤ maxNodes) (j : z .bound ≤ maxBound) → Delivered s f out r out′ → WritesInto s f out r out′
-  writes-in {out} i j d =
-      record { equal = told out true true (le-leb (nodes s (h .tree)) maxNodes (omega (arith, few))) (le-leb (bound s (h .tree)) maxBound (omega (arith, low))) ∙ d .it (h .tree) [] reads-front .equal }
+  pub writes-in : {out out′ : List ℕ} {x : Length} → Delivered s f out x out′ → WritesInto s f out x out′
+  writes-in {out} d = record { equal = ap (λ x. delivered (map (formulaText s) x) out) (h .is) ∙ d .it (h .tree) [] reads-front .equal }

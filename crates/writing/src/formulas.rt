@@ -3,7 +3,7 @@ use crate::Place;
 use crate::bytes;
 use crate::numbers;
 use formula::Kind;
-use formula::Measured;
+use formula::Sized;
 use formula::Sort;
 use refusals::Refusal;
 use text::Length;
@@ -140,16 +140,8 @@ fn sized(sort: Sort, f: &[u8], out: &mut [u8]) -> Length
 pub fn write_formula(sort: Sort, f: &[u8], out: &mut [u8]) -> Length
     ensures { λ r. ⌜ WritesInto sort (now (f .entry)) (now (out .entry)) r (now (out .exit)) ⌝ }
 {
-    match formula::measure(sort, f) {
-        Measured::Formula(z) => {
-            if 511 < z.nodes {
-                return Length::Refused(Refusal::TooManyNodes);
-            }
-            if 255 < z.bound {
-                return Length::Refused(Refusal::LargeDimension);
-            }
-            sized(sort, f, out)
-        }
-        Measured::Ill => Length::Refused(Refusal::NotAFormula),
+    match formula::operand(sort, f) {
+        Sized::Fits(_) => sized(sort, f, out),
+        Sized::Refused(e) => Length::Refused(e),
     }
 }

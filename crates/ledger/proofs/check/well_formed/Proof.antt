@@ -4,14 +4,13 @@ use Rattle.ledger.proofs.check.well_formed.Tie as tie
 use mathlib.Core.Path.{sym, _∙_}
 use native.Mathlib.Omega.{arith}
 use borrow.Author.Tests.{not-true, not-false}
-use Rattle.calculus.specs.Parse.{readLedger}
-use Rattle.ledger.proofs.CheckLaws.{said-counted, ledger-short, ledger-big, ledger-long, ledger-rest}
+use Rattle.ledger.proofs.CheckLaws.{ledger-short, ledger-big, ledger-long, ledger-rest}
 
 returns : tie.Need-returns
-returns c = said-counted (readLedger (c .before .before .args .l .now)) (sym (ledger-short (c .before .before .args .l .now) (c .if1 .taken)))
+returns c = sym (ledger-short (c .before .before .args .l .now) (c .if1 .taken))
 
 returns-2 : tie.Need-returns-2
-returns-2 c = said-counted (readLedger (c .before .before .before .args .l .now)) (sym (ledger-big (c .before .before .before .args .l .now) (c .if2 .taken)))
+returns-2 c = sym (ledger-big (c .before .before .before .args .l .now) (c .if2 .taken))
 
 get4-requires : tie.Need-get4-requires
 get4-requires c κs = search needs
@@ -20,7 +19,7 @@ sub-if3 : tie.Need-sub-if3
 sub-if3 c = search needs
 
 returns-3 : tie.Need-returns-3
-returns-3 c = said-counted (readLedger (c .before .before .before .before .before .args .l .now)) (sym (ledger-long (c .before .before .before .before .before .args .l .now) (c .before .before .before .if1 .left) (c .before .before .if2 .left) (c .before .get4 .ensures .0) (c .if3 .taken)))
+returns-3 c = sym (ledger-long (c .before .before .before .before .before .args .l .now) (c .before .before .before .if1 .left) (c .before .before .if2 .left) (c .before .get4 .ensures .0) (c .if3 .taken))
 
 add-end : tie.Need-add-end
 add-end c = search needs
@@ -29,7 +28,7 @@ zeros-from-requires : tie.Need-zeros-from-requires
 zeros-from-requires c κs = search needs
 
 returns-4 : tie.Need-returns-4
-returns-4 c = said-counted (readLedger (c .before .before .before .before .before .before .before .args .l .now)) (sym (ledger-rest (c .before .before .before .before .before .before .before .args .l .now) (c .before .before .before .before .before .if1 .left) (c .before .before .before .before .if2 .left) (c .before .before .before .get4 .ensures .0) (omega arith) (sym (c .before .zeros-from .ensures) ∙ not-true _ (c .if4 .taken))))
+returns-4 c = sym (ledger-rest (c .before .before .before .before .before .before .before .args .l .now) (c .before .before .before .before .before .if1 .left) (c .before .before .before .before .if2 .left) (c .before .before .before .get4 .ensures .0) (omega arith) (sym (c .before .zeros-from .ensures) ∙ not-true _ (c .if4 .taken)))
 
 sub-count-records : tie.Need-sub-count-records
 sub-count-records c = search needs
@@ -44,7 +43,7 @@ count-records-requires : tie.Need-count-records-requires
 count-records-requires c κs = search needs
 
 returns-5 : tie.Need-returns-5
-returns-5 c = said-counted (readLedger (c .before .before .before .before .before .before .before .before .before .args .l .now)) (c .count-records .ensures ∙ sym (ledger-rest (c .before .before .before .before .before .before .before .before .before .args .l .now) (c .before .before .before .before .before .before .before .if1 .left) (c .before .before .before .before .before .before .if2 .left) (c .before .before .before .before .before .get4 .ensures .0) (omega arith) (sym (c .before .before .before .zeros-from .ensures) ∙ not-false _ (c .before .before .if4 .left))))
+returns-5 c = c .count-records .ensures ∙ sym (ledger-rest (c .before .before .before .before .before .before .before .before .before .args .l .now) (c .before .before .before .before .before .before .before .if1 .left) (c .before .before .before .before .before .before .if2 .left) (c .before .before .before .before .before .get4 .ensures .0) (omega arith) (sym (c .before .before .before .zeros-from .ensures) ∙ not-false _ (c .before .before .if4 .left)))
 
 pub well-formed-spec : {M : Type 1} → statement M
 well-formed-spec =

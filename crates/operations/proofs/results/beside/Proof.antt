@@ -3,9 +3,9 @@ use Rattle.operations.proofs.results.beside.Statement.{statement}
 use Rattle.operations.proofs.results.beside.Tie as tie
 use mathlib.Core.Path.{sym, ap, _∙_}
 use Rattle.refusals.specs.Refusals.{refused}
-use Rattle.operations.specs.Results.{saidSized}
+use Rattle.formula.specs.Answers.{saidSized}
 use Rattle.operations.specs.Fitting.{besideRefused}
-use Rattle.operations.specs.declared.Sized.{Sized}
+use Rattle.formula.specs.declared.Sized.{Sized}
 
 enum-told : tie.Need-enum-told
 enum-told c = search needs

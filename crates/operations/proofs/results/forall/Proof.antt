@@ -5,7 +5,8 @@ use mathlib.Core.Path.{sym, ap, _∙_}
 use Rattle.formula.specs.declared.Sort.the-variants.{Faces}
 use Rattle.operations.specs.Results.{foralled}
 use Rattle.passes.proofs.PassLaws.{wrote-as}
-use Rattle.operations.proofs.AnswerLaws.{sized-refused, answered-refused, answered-short, answered-done, forall-fitted, forall-rewritable, forall-spells}
+use Rattle.formula.proofs.Operands.{sized-refused}
+use Rattle.operations.proofs.AnswerLaws.{answered-refused, answered-short, answered-done, forall-fitted, forall-rewritable, forall-spells}
 
 forall-size-requires : tie.Need-forall-size-requires
 forall-size-requires c κs = search needs

@@ -2,19 +2,20 @@ use borrow.Author.Needs.{needs}
 use Rattle.operations.proofs.results.resized.Statement.{statement}
 use Rattle.operations.proofs.results.resized.Tie as tie
 use mathlib.Core.Path.{sym, ap, _∙_}
-use Rattle.operations.specs.Results.{operand}
+use Rattle.formula.specs.Answers.{operand}
 use Rattle.operations.specs.Fitting.{resizedBy}
-use Rattle.operations.proofs.AnswerLaws.{sized-fits, sized-refused, opened, opened-whole, resized-kept}
+use Rattle.formula.proofs.Operands.{sized-fits, sized-refused, opened}
+use Rattle.operations.proofs.AnswerLaws.{opened-whole, resized-kept}
 
-operand-size-requires : tie.Need-operand-size-requires
-operand-size-requires c κs = search needs
+operand-requires : tie.Need-operand-requires
+operand-requires c κs = search needs
 
 enum-told : tie.Need-enum-told
 enum-told c = search needs
 
 weigh-requires : tie.Need-weigh-requires
 weigh-requires c κs = let a = c .before .before .before .before .args in
-    let f = (sized-fits (a .sort) (operand (a .sort) (a .s .now)) (c .before .before .operand-size .ensures) (c .enum-told .given .1)) in
+    let f = (sized-fits (a .sort) (operand (a .sort) (a .s .now)) (c .before .before .operand .ensures) (c .enum-told .given .1)) in
     (opened-whole (a .sort) (a .s .now) (f .tree) (opened (a .sort) (a .s .now) (f .tree) (f .is)), c .before .before .before .before .pre)
 
 within-requires : tie.Need-within-requires
@@ -22,7 +23,7 @@ within-requires c κs = search needs
 
 returns : tie.Need-returns
 returns c = let a = c .before .before .before .before .before .before .before .args in
-    let f = (sized-fits (a .sort) (operand (a .sort) (a .s .now)) (c .before .before .before .before .before .operand-size .ensures) (c .before .before .before .enum-told .given .1)) in
+    let f = (sized-fits (a .sort) (operand (a .sort) (a .s .now)) (c .before .before .before .before .before .operand .ensures) (c .before .before .before .enum-told .given .1)) in
     sym (resized-kept (a .sort) (a .rule) (a .hit) (a .s .now) (f .tree) (f .is) (c .before .before .weigh .result) (c .before .before .weigh .ensures) ∙ rw (sym (c .before .within .ensures) ∙ c .if1 .taken))
 
 enum-known-e : tie.Need-enum-known-e
@@ -30,18 +31,18 @@ enum-known-e c = search needs
 
 returns-2 : tie.Need-returns-2
 returns-2 c = let a = c .before .before .before .before .before .before .before .args in
-    let f = (sized-fits (a .sort) (operand (a .sort) (a .s .now)) (c .before .before .before .before .before .operand-size .ensures) (c .before .before .before .enum-told .given .1)) in
+    let f = (sized-fits (a .sort) (operand (a .sort) (a .s .now)) (c .before .before .before .before .before .operand .ensures) (c .before .before .before .enum-told .given .1)) in
     sym (resized-kept (a .sort) (a .rule) (a .hit) (a .s .now) (f .tree) (f .is) (c .before .before .weigh .result) (c .before .before .weigh .ensures) ∙ rw (sym (c .before .within .ensures) ∙ c .if1 .left))
 
 returns-3 : tie.Need-returns-3
 returns-3 c = let a = c .before .before .before .before .before .args in
-    sym (ap (resizedBy (a .sort) (a .rule) (a .hit)) (sized-refused (a .sort) (operand (a .sort) (a .s .now)) (c .before .before .before .operand-size .ensures) (c .before .e .given .1)))
+    sym (ap (resizedBy (a .sort) (a .rule) (a .hit)) (sized-refused (a .sort) (operand (a .sort) (a .s .now)) (c .before .before .before .operand .ensures) (c .before .e .given .1)))
 
 pub resized-spec : {M : Type 1} → statement M
 resized-spec =
     tie.close
     (tie.spec
-    operand-size-requires
+    operand-requires
     enum-told
     weigh-requires
     within-requires

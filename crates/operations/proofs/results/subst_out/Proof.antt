@@ -9,7 +9,8 @@ use Rattle.formula.specs.declared.Sort.{Sort}
 use Rattle.formula.specs.declared.Sort.the-variants.{Intervals}
 use Rattle.operations.specs.declared.Op.the-variants.{DSubst}
 use Rattle.passes.proofs.PassLaws.{wrote-as}
-use Rattle.operations.proofs.AnswerLaws.{opened, subst-by, subst-rewritable, subst-spells}
+use Rattle.formula.proofs.Operands.{opened}
+use Rattle.operations.proofs.AnswerLaws.{subst-by, subst-rewritable, subst-spells}
 
 enum-told : tie.Need-enum-told
 enum-told c = search needs

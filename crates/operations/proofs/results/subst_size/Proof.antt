@@ -17,8 +17,8 @@ resized-requires c κs = let a = c .before .before .before .before .before .befo
 enum-known-e : tie.Need-enum-known-e
 enum-known-e c = search needs
 
-operand-size-requires : tie.Need-operand-size-requires
-operand-size-requires c κs = search needs
+operand-requires : tie.Need-operand-requires
+operand-requires c κs = search needs
 
 beside-requires : tie.Need-beside-requires
 beside-requires c κs = search needs
@@ -28,7 +28,7 @@ returns c = let a = c .before .before .before .before .before .before .before .a
 
 returns-2 : tie.Need-returns-2
 returns-2 c = let a = c .before .before .before .before .before .before .before .before .args in
-    c .beside .ensures ∙ ap (besideRefused _) (c .before .operand-size .ensures) ∙ sym (subst-refused (a .sort) (a .k) (a .s .now) (a .r .now) (hit-refused (a .sort) (a .r .now) (c .before .before .before .before .before .hit-size .ensures) (c .before .before .before .e .given .1)))
+    c .beside .ensures ∙ ap (besideRefused _) (c .before .operand .ensures) ∙ sym (subst-refused (a .sort) (a .k) (a .s .now) (a .r .now) (hit-refused (a .sort) (a .r .now) (c .before .before .before .before .before .hit-size .ensures) (c .before .before .before .e .given .1)))
 
 pub subst-size-spec : {M : Type 1} → statement M
 subst-size-spec =
@@ -38,7 +38,7 @@ subst-size-spec =
     enum-known-z
     resized-requires
     enum-known-e
-    operand-size-requires
+    operand-requires
     beside-requires
     returns
     returns-2)

@@ -4,7 +4,8 @@ use Rattle.operations.proofs.results.transform.Tie as tie
 use mathlib.Core.Path.{sym, ap, _∙_}
 use lib.ListN.{length}
 use Rattle.operations.specs.Results.{transformed}
-use Rattle.operations.proofs.AnswerLaws.{sized-fits, sized-refused, answered-refused, answered-short, answered-kept, fitting}
+use Rattle.formula.proofs.Operands.{sized-fits, sized-refused}
+use Rattle.operations.proofs.AnswerLaws.{answered-refused, answered-short, answered-kept, fitting}
 
 transform-size-requires : tie.Need-transform-size-requires
 transform-size-requires c κs = search needs
