@@ -16,7 +16,7 @@
  *    LF_STACK_BYTES. Each page of a frame is touched in turn, so too small a stack ends at its guard page.
  *
  * Every answer is one number. Refusal q is -q (10 of the desk: below), and then nothing is written, but that 8 and 9
- * leave steps in the ledger. Else it is what the function says; an output's first bytes are the result, and its other
+ * leave steps in a ledger. Else it is what the function says; an output's first bytes are the result, and its other
  * bytes stay. The static functions at the end take answers apart. */
 #ifndef LINEFEIJOA_H
 #define LINEFEIJOA_H
@@ -29,7 +29,8 @@ extern "C" {
 #endif
 
 /* Document 01's refusals: what each means; what to do. All but 8 and 9 leave every lent byte unchanged. 8 and 9 leave
- * outputs unchanged, and in the ledger the steps that were emitted before the no. The first no decides. */
+ * outputs unchanged, and in the ledger, where one is lent, the steps that were emitted before the no. The first no
+ * decides. */
 enum lf_refusal {
     /* the ledger is not 4 to 1,048,576 bytes long, or it is not well formed;
      * start from zero bytes, or from the bytes that a call left */
@@ -65,7 +66,10 @@ enum lf_refusal {
     /* the text is not accepted;
      * spell it with the known names, every list closed and nothing left over, in a line of at most 4,096 bytes for
      * facesteps */
-    LF_NOT_ACCEPTED = 11
+    LF_NOT_ACCEPTED = 11,
+    /* the implication holds, so there is no counterexample;
+     * take it as the answer: entails says yes */
+    LF_IMPLIED = 12
 };
 
 /* Limits, and sizes that are always enough. */
@@ -98,6 +102,13 @@ enum lf_node {
     LF_NEG = 19,  /* interval: zero where the one that follows is one, and one where it is zero */
     LF_MEET = 20, /* interval: zero where one of the two that follow is, one where both are */
     LF_JOIN = 21  /* interval: one where one of the two that follow is, zero where both are */
+};
+
+/* The bytes of assignments: what a dimension is. */
+enum lf_value {
+    LF_ZERO = 0,        /* at0 of it holds */
+    LF_ONE = 1,         /* at1 of it holds */
+    LF_UNDETERMINED = 2 /* neither does */
 };
 
 /* ---- Ledgers ---- */
@@ -162,6 +173,16 @@ int64_t lf_substitute_interval(uint8_t *ledger, size_t ledger_len, const uint8_t
 int64_t lf_entails(uint8_t *ledger, size_t ledger_len, uint64_t d, const uint8_t *a, size_t a_len, const uint8_t *b,
                    size_t b_len);
 
+/* ---- Counterexamples: no ledger is asked for ---- */
+
+/* Where the face a does not imply the face b over d, so where lf_entails says 9 on a ledger that is long enough: an
+ * assignment that satisfies a and not b, in front of out, a byte (enum lf_value) for each of the d dimensions: d. No
+ * such assignment determines fewer dimensions; of those that determine as few it is the first in byte order.
+ * Refused by 2, 3, 4, by 6 where out is shorter than d, by 8 where a dimension is not below d, by 12 where a implies
+ * b. */
+int64_t lf_counterexample(uint64_t d, const uint8_t *a, size_t a_len, const uint8_t *b, size_t b_len, uint8_t *out,
+                          size_t out_len);
+
 /* ---- Texts ---- */
 
 /* The face that a text is, in front of out: its length. Bytes 32 and 10 separate. Refused by 3, 4, 11, whichever is met
@@ -219,7 +240,7 @@ int64_t lf_facesteps(const uint8_t *input, size_t input_len, uint8_t *out, size_
 
 /* ---- Answers taken apart ---- */
 
-/* The refusal's number, 1 to 11, or 0 where the answer is none: any function's. */
+/* The refusal's number, 1 to 12, or 0 where the answer is none: any function's. */
 static inline int lf_refusal_of(int64_t answer) {
     return answer < 0 ? (int)((0 - (uint64_t)answer) & 15) : 0;
 }
@@ -250,6 +271,8 @@ static inline const char *lf_refusal_meaning(int refusal) {
         return "a step does not follow by its rule";
     case LF_NOT_ACCEPTED:
         return "the text is not accepted";
+    case LF_IMPLIED:
+        return "the implication holds, so there is no counterexample";
     default:
         return "";
     }

@@ -33,6 +33,10 @@ passed 6
 END
 )
 
+status=0
+said=$(cargo run --quiet --offline -j1 --example claim -- 'entails (s (s z)) (for (at0 z) (at1 (s z))) (at0 z)') || status=$?
+[[ $status = 1 && $said = *$'refused 9: the implication does not hold\nit does not hold at _1\npassed '* ]] || { echo "$said"; exit 1; }
+
 # Without the library the build says what to do.
 mkdir -p "$CARGO_TARGET_DIR/none"
 if said=$(LF_LIBRARY=$CARGO_TARGET_DIR/none CARGO_TARGET_DIR=$CARGO_TARGET_DIR/none cargo build --offline -j1 2>&1); then

@@ -1,4 +1,4 @@
-/* Asks a claim, prints its listing and the answer, and what the step desk says of the ledger.
+/* Asks a claim, prints its listing and the answer, where it does not hold, and what the step desk says of the ledger.
  *
  *     cc -I include examples/c/claim.c -L target/staticlib -lexports -o claim
  *     ./claim 'entails (s z) (at0 z) ft'
@@ -50,6 +50,16 @@ static int print_steps(const struct ledger *l) {
     return n == 0;
 }
 
+/* Prints an assignment at which a holds and b does not: a sign for each dimension, _ where it is undetermined. */
+static void print_counterexample(uint64_t d, const uint8_t *a, size_t a_len, const uint8_t *b, size_t b_len) {
+    uint8_t at[LF_MAX_D];
+    int64_t n = lf_counterexample(d, a, a_len, b, b_len, at, sizeof at);
+    fputs("it does not hold at ", stdout);
+    for (int64_t i = 0; i < n; i++)
+        putchar(at[i] == LF_ZERO ? '0' : at[i] == LF_ONE ? '1' : '_');
+    putchar('\n');
+}
+
 int main(int count, char **words) {
     struct ledger l = {NULL, 0};
     uint8_t a[LF_MAX_FORMULA_BYTES], b[LF_MAX_FORMULA_BYTES];
@@ -79,6 +89,8 @@ int main(int count, char **words) {
         printf("refused %d: %s\n", lf_refusal_of(answer), lf_refusal_meaning(lf_refusal_of(answer)));
     else
         printf("yes %u\n", lf_step_of(answer));
+    if (lf_refusal_of(answer) == LF_NOT_IMPLIED)
+        print_counterexample(lf_claim_d_of(claim), a, lf_claim_a_len_of(claim), b, lf_claim_b_len_of(claim));
 
     desk = lf_step_desk(l.bytes, l.len);
     if (desk < 0)

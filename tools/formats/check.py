@@ -10,6 +10,7 @@ The rules are compared with three places: names, reference counts and predicates
 calculus (specs/Rules.antt), up to the choice of letters. Only the Python library is used. The last line says how much was
 compared, or how much differs.
 """
+import itertools
 import pathlib
 import re
 import subprocess
@@ -371,6 +372,28 @@ def normal(face):
     return printed(nested("for", "ff", [nested("fand", "ft", [[end, unary(n)] for n, end in c]) for c in clauses(face)]))
 
 
+def counterexample(d, a, b):
+    """The bytes of the least counterexample, every assignment tried, or the refusal."""
+
+    def holds(f, at):
+        if f in ("ff", "ft"):
+            return f == "ft"
+        if f[0] in ("at0", "at1"):
+            return at[number(f[1])] == int(f[0][2])
+        return (all if f[0] == "fand" else any)(holds(part, at) for part in f[1:])
+
+    def bound(f):
+        if isinstance(f, str):
+            return 0
+        return number(f[1]) + 1 if f[0] in ("at0", "at1") else max(map(bound, f[1:]))
+
+    if max(bound(a), bound(b)) > d:
+        return "refused 8"
+    every = sorted(itertools.product(range(3), repeat=d), key=lambda at: (sum(v < 2 for v in at), at))
+    found = [at for at in every if holds(a, at) and not holds(b, at)]
+    return " ".join(map(str, found[0])) if found else "refused 12"
+
+
 def examples(names, operands, kinds):
     for text, content, nodes in rows("Formulas as bytes", 3):
         ours = Reader(map(int, content.split()), names, operands, kinds)
@@ -381,6 +404,8 @@ def examples(names, operands, kinds):
             same(f"{operation} of {on}", results.replace("`", "").split(", "), operated(operation, tree(on)))
     for face, form in rows("The normal form", 2):
         same(f"normal form of {face}", form, normal(tree(face)))
+    for d, a, b, content in rows("Counterexamples", 4):
+        same(f"counterexample to {a} and {b} over {d}", content, counterexample(int(d), tree(a), tree(b)))
     worked = [row for row in rows("A ledger, byte by byte", 3)]
     content = [int(b) for row in worked for b in re.findall(r"\d+", row[1])]
     for at, written, _ in worked:

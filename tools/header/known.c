@@ -114,6 +114,40 @@ static void entailments(struct tally *t) {
     lent_free(&l);
 }
 
+/* The least assignments at which the same and others do not hold. */
+static void counterexamples(struct tally *t) {
+    static const uint8_t a[] = {LF_FAND, LF_AT0, 0, LF_FOR, LF_AT0, 1, LF_AT1, 1};
+    static const uint8_t b[] = {LF_FOR, LF_FAND, LF_AT0, 0, LF_AT0, 1, LF_FAND, LF_AT0, 0, LF_AT1, 1};
+    static const uint8_t both[] = {LF_FAND, LF_AT0, 0, LF_AT1, 0}, either[] = {LF_FOR, LF_AT0, 0, LF_AT1, 0};
+    static const uint8_t some[] = {LF_FOR, LF_AT0, 1, LF_FOR, LF_AT1, 0, LF_AT0, 2}, second[] = {LF_AT0, 1};
+    static const uint8_t open[] = {LF_UNDETERMINED}, zeros[] = {LF_ZERO, LF_ZERO, LF_UNDETERMINED};
+    static const uint8_t one[] = {LF_ONE, LF_UNDETERMINED, LF_UNDETERMINED};
+    static const uint8_t middle[] = {LF_UNDETERMINED, LF_ZERO, LF_UNDETERMINED}, mixed[] = {LF_ZERO, LF_ONE};
+    struct lent out = lent_filled(20), none = lent_filled(0);
+    ASK(t, lf_counterexample(2, N(a), N(b), out.bytes, out.len), -LF_IMPLIED);
+    ASK(t, lf_counterexample(1, N(both), N(ff), out.bytes, out.len), -LF_IMPLIED);
+    ASK(t, lf_counterexample(0, N(ff), N(at0), out.bytes, out.len), -LF_NOT_BELOW);
+    ASK(t, lf_counterexample(0, N(ff), N(ff), out.bytes, out.len), -LF_IMPLIED);
+    stays(t, "lf_counterexample", &out);
+    ASK(t, lf_counterexample(1, N(ft), N(either), out.bytes, out.len), sizeof open);
+    holds(t, "lf_counterexample", &out, N(open));
+    /* As few dimensions in three ways, and the first in byte order of those that are left. */
+    ASK(t, lf_counterexample(3, N(some), N(ff), out.bytes, out.len), sizeof one);
+    holds(t, "lf_counterexample", &out, N(one));
+    ASK(t, lf_counterexample(3, N(some), either + 3, sizeof at0, out.bytes, out.len), sizeof middle);
+    holds(t, "lf_counterexample", &out, N(middle));
+    ASK(t, lf_counterexample(3, N(a), N(ff), out.bytes, out.len), sizeof zeros);
+    holds(t, "lf_counterexample", &out, N(zeros));
+    ASK(t, lf_counterexample(2, N(a), N(second), out.bytes, out.len), sizeof mixed);
+    holds(t, "lf_counterexample", &out, N(mixed));
+    /* No dimension, no byte; one buffer as both operands. */
+    ASK(t, lf_counterexample(0, N(ft), N(ff), none.bytes, none.len), 0);
+    stays(t, "lf_counterexample", &none);
+    ASK(t, lf_counterexample(1, N(at0), N(at0), out.bytes, out.len), -LF_IMPLIED);
+    stays(t, "lf_counterexample", &out);
+    lent_free(&out), lent_free(&none);
+}
+
 /* The answer of a call with a result: its step and its length. */
 static int64_t made(int64_t step, size_t len) {
     return step + 4294967296 * (int64_t)len;
@@ -198,7 +232,7 @@ static void apart(struct tally *t) {
     int64_t call = made(7, 5), claim = 200 + 65536 * (int64_t)300 + 4294967296 * (int64_t)400;
     ASK(t, lf_refusal_of(call), 0);
     ASK(t, lf_refusal_of(0), 0);
-    for (int q = 1; q <= 11; q++)
+    for (int q = 1; q <= 12; q++)
         ASK(t, lf_refusal_of(-q), q);
     ASK(t, lf_refusal_of(-(10 + 16 * (int64_t)131071)), 10);
     ASK(t, lf_step_of(call), 7);
@@ -215,14 +249,16 @@ static void apart(struct tally *t) {
     ASK(t, lf_part_start_of(75 + 4294967296 * 4), 75);
     ASK(t, lf_part_len_of(75 + 4294967296 * 4), 4);
     ASK(t, strcmp(lf_refusal_meaning(LF_NOT_IMPLIED), "the implication does not hold"), 0);
+    ASK(t, strcmp(lf_refusal_meaning(LF_IMPLIED), "the implication holds, so there is no counterexample"), 0);
     ASK(t, lf_refusal_meaning(0)[0], 0);
-    ASK(t, lf_refusal_meaning(12)[0], 0);
+    ASK(t, lf_refusal_meaning(13)[0], 0);
 }
 
 void known(struct tally *t) {
     listing(t);
     program(t);
     entailments(t);
+    counterexamples(t);
     results(t);
     formulas(t);
     apart(t);

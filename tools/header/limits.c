@@ -142,6 +142,24 @@ static void deepest(struct tally *t) {
     lent_free(&l);
 }
 
+/* 255 dimensions, each of which has to be determined, in an output that is just long enough. */
+static void assignments(struct tally *t) {
+    uint8_t a[800], b[800], want[LF_MAX_D];
+    size_t an = chain(a, LF_FAND, LF_AT1, 256, 0, 1), bn = chain(b, LF_FOR, LF_AT0, 256, 0, 1);
+    struct lent out = lent_filled(LF_MAX_D);
+    /* The chain has dimensions 0 to 253, and 0 and 1 once more; the last takes the place of that 1. */
+    a[an - 1] = LF_MAX_DIMENSION;
+    memset(want, LF_ONE, sizeof want);
+    ASK(t, lf_counterexample(LF_MAX_D, a, an, b, bn, out.bytes, out.len - 1), -LF_SHORT_OUTPUT);
+    stays(t, "lf_counterexample", &out);
+    ASK(t, lf_counterexample(LF_MAX_D, a, an, b, bn, out.bytes, out.len), LF_MAX_D);
+    holds(t, "lf_counterexample", &out, N(want));
+    ASK(t, lf_counterexample(LF_MAX_D - 1, a, an, b, bn, out.bytes, out.len), -LF_NOT_BELOW);
+    ASK(t, lf_counterexample(LF_MAX_D, a, an, a, an, out.bytes, out.len), -LF_IMPLIED);
+    stays(t, "lf_counterexample", &out);
+    lent_free(&out);
+}
+
 void limits(struct tally *t) {
     ledgers(t);
     longer(t);
@@ -150,4 +168,5 @@ void limits(struct tally *t) {
     names(t);
     typed(t);
     deepest(t);
+    assignments(t);
 }

@@ -60,6 +60,11 @@ void nulls(struct tally *t) {
     ASK(t, lf_entails(l.bytes, n, 0, NONE, N(ft)), -LF_NOT_A_FORMULA);
     ASK(t, lf_entails(l.bytes, n, 0, N(ft), NONE), -LF_NOT_A_FORMULA);
     ASK(t, lf_entails(NONE, 0, NONE, NONE), -LF_ILL_FORMED_LEDGER);
+    ASK(t, lf_counterexample(1, NONE, N(ft), out.bytes, on), -LF_NOT_A_FORMULA);
+    ASK(t, lf_counterexample(1, N(ft), NONE, out.bytes, on), -LF_NOT_A_FORMULA);
+    ASK(t, lf_counterexample(1, N(ft), N(ft), NONE), -LF_SHORT_OUTPUT);
+    ASK(t, lf_counterexample(0, N(ft), N(ft), NONE), -LF_IMPLIED);
+    ASK(t, lf_counterexample(0, NONE, NONE, NONE), -LF_NOT_A_FORMULA);
 
     /* Texts without their last byte, the zero. */
     ASK(t, lf_read_face(NONE, out.bytes, on), -LF_NOT_ACCEPTED);

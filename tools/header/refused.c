@@ -76,6 +76,20 @@ void refused(struct tally *t) {
     REFUSE(lf_entails(LEDGER, LF_MAX_D + 1, N(ft), N(ft)), LF_LARGE_DIMENSION);
     REFUSE(lf_entails(SHORT, 1, N(ft), N(ft)), LF_FULL_LEDGER);
 
+    /* Each question of all operands, and of d, before the next. */
+    REFUSE(lf_counterexample(256, wide, wn, N(bad), OUT), LF_NOT_A_FORMULA);
+    REFUSE(lf_counterexample(256, N(bad), N(high), OUT), LF_NOT_A_FORMULA);
+    REFUSE(lf_counterexample(256, N(high), wide, wn, OUT), LF_TOO_MANY_NODES);
+    REFUSE(lf_counterexample(1, wide, wn, N(high), OUT), LF_TOO_MANY_NODES);
+    REFUSE(lf_counterexample(1, N(at0), N(high), NULL, 0), LF_LARGE_DIMENSION);
+    REFUSE(lf_counterexample(LF_MAX_D + 1, N(at0), N(at0), OUT), LF_LARGE_DIMENSION);
+    REFUSE(lf_counterexample(UINT64_MAX, N(ft), N(ft), OUT), LF_LARGE_DIMENSION);
+    REFUSE(lf_counterexample(1, N(last), N(ft), NULL, 0), LF_SHORT_OUTPUT);
+    REFUSE(lf_counterexample(LF_MAX_D, N(ft), N(at0), out.bytes, LF_MAX_D - 1), LF_SHORT_OUTPUT);
+    REFUSE(lf_counterexample(LF_MAX_DIMENSION, N(ft), N(last), OUT), LF_NOT_BELOW);
+    REFUSE(lf_counterexample(1, N(last), N(ft), OUT), LF_NOT_BELOW);
+    REFUSE(lf_counterexample(1, N(both), N(at0), OUT), LF_IMPLIED);
+
     /* 8 leaves steps, and outputs as they were: on a ledger of their own. */
     ASK(t, lf_face(steps.bytes, steps.len, 0, N(at0)), -LF_NOT_BELOW);
     ASK(t, lf_interval(steps.bytes, steps.len, 0, N(dim0)), -LF_NOT_BELOW);

@@ -67,4 +67,7 @@ for refused in '8 entails z ff (at0 z)' '9 entails (s z) ft (for (at0 z) (at1 z)
   said=$("$built/claim" "${refused#* }") || status=$?
   [[ $status = 1 && $said = *"refused ${refused%% *}: "* ]] || { echo "claim '${refused#* }': $said"; exit 1; }
 done
+status=0
+said=$("$built/claim" 'entails (s (s z)) (for (at0 z) (at1 (s z))) (at0 z)') || status=$?
+[[ $status = 1 && $said = *$'refused 9: the implication does not hold\nit does not hold at _1\npassed '* ]] || { echo "$said"; exit 1; }
 echo 'the examples in C print what they should'

@@ -1,4 +1,4 @@
-//! Asks a claim, prints its listing and the answer, and what the step desk says of the ledger.
+//! Asks a claim, prints its listing and the answer, where it does not hold, and what the step desk says of the ledger.
 //!
 //!     cargo run --example claim 'entails (s z) (at0 z) ft'
 //!
@@ -38,6 +38,9 @@ fn main() -> ExitCode {
     match answer {
         Ok(step) => println!("yes {step}"),
         Err(refusal) => println!("refused {}: {refusal}", refusal.number()),
+    }
+    if let (Err(Refusal::NotImplied), Ok(at)) = (answer, claim.counterexample()) {
+        println!("it does not hold at {at}");
     }
     match ledger.desk() {
         Ok(steps) => println!("passed {steps}"),

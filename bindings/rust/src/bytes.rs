@@ -19,8 +19,8 @@
 //! # Ok::<(), Refusal>(())
 //! ```
 pub use crate::raw::{
-    boundary, endpoint, entails, face, facesteps, forall, interval, kind, normal, operands, read_claim, read_face,
-    read_interval, reference, repeats, rule_name, shift_face, shift_interval, step_desk, substitute_face,
+    boundary, counterexample, endpoint, entails, face, facesteps, forall, interval, kind, normal, operands, read_claim,
+    read_face, read_interval, reference, repeats, rule_name, shift_face, shift_interval, step_desk, substitute_face,
     substitute_interval, well_formed, write_face, write_interval, write_step,
 };
 use crate::{Refusal, Step};
@@ -38,7 +38,7 @@ pub fn refusal_of(answer: i64) -> Option<Refusal> {
     if answer >= 0 {
         return None;
     }
-    // 1 to 11 in the lowest four bits; for 10 the step above them, which is 0 else.
+    // 1 to 12 in the lowest four bits; for 10 the step above them, which is 0 else.
     let bits = answer.unsigned_abs();
     let (number, step) = (bits & 15, bits >> 4);
     let known = if step > LOW || step > 0 && number != 10 {
@@ -69,7 +69,8 @@ pub fn made_of(answer: i64) -> Result<(Step, usize), Refusal> {
     accepted(answer).map(|n| (Step::new((n & LOW) as u32), (n >> 32) as usize))
 }
 
-/// Of the readers and writers, [`normal`], [`rule_name`] and [`facesteps`]: the length of what is in front of the output.
+/// Of the readers and writers, [`counterexample`], [`normal`], [`rule_name`] and [`facesteps`]: the length of what is in
+/// front of the output.
 pub fn length_of(answer: i64) -> Result<usize, Refusal> {
     accepted(answer).map(|n| n as usize)
 }

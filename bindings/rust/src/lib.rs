@@ -11,7 +11,7 @@
 //! let mut ledger = Ledger::new(4_096)?;
 //! match ledger.ask(&claim) {
 //!     Ok(step) => println!("{}yes {step}", ledger.listing()),
-//!     Err(Refusal::NotImplied) => println!("it does not hold"),
+//!     Err(Refusal::NotImplied) => println!("it does not hold at {}", claim.counterexample()?),
 //!     Err(refusal) => println!("refused {}: {refusal}", refusal.number()),
 //! }
 //! assert_eq!(ledger.desk()?, 6);
@@ -20,6 +20,7 @@
 //!
 //! - [`Face`] and [`Interval`] own the bytes of one formula within document 01's limits; they are read and printed by the
 //!   proved reader and writer. Calls also take bytes as they come ([`AsFace`], [`AsInterval`]).
+//! - [`Claim::counterexample`] answers an [`Assignment`] at which an implication does not hold.
 //! - [`Record`] is a step looked at: [`Rule`], references, judgement. [`Ledger::steps`] goes over all of them.
 //! - [`facesteps`] is the program of that name, from an input to what it prints.
 //! - [`bytes`] has the library's own functions over slices.
@@ -37,6 +38,7 @@
 #![deny(missing_docs)]
 #![deny(unsafe_code)]
 
+mod assignment;
 pub mod bytes;
 mod claim;
 mod formula;
@@ -49,6 +51,7 @@ mod record;
 mod refusal;
 mod rule;
 
+pub use assignment::{Assignment, Value};
 pub use claim::Claim;
 pub use formula::{AsFace, AsInterval, Face, Interval};
 pub use ledger::{Boundary, End, Ledger, Made, Step};

@@ -89,6 +89,15 @@ unsafe extern "C" {
         b: *const u8,
         b_len: usize,
     ) -> i64;
+    fn lf_counterexample(
+        d: u64,
+        a: *const u8,
+        a_len: usize,
+        b: *const u8,
+        b_len: usize,
+        out: *mut u8,
+        out_len: usize,
+    ) -> i64;
     fn lf_read_face(source: *const u8, source_len: usize, out: *mut u8, out_len: usize) -> i64;
     fn lf_read_interval(source: *const u8, source_len: usize, out: *mut u8, out_len: usize) -> i64;
     fn lf_read_claim(source: *const u8, source_len: usize, a: *mut u8, a_len: usize, b: *mut u8, b_len: usize) -> i64;
@@ -219,6 +228,13 @@ pub fn substitute_interval(ledger: &mut [u8], t: &[u8], k: u64, r: &[u8], out: &
 #[inline]
 pub fn entails(ledger: &mut [u8], d: u64, a: &[u8], b: &[u8]) -> i64 {
     unsafe { lf_entails(ledger.as_mut_ptr(), ledger.len(), d, a.as_ptr(), a.len(), b.as_ptr(), b.len()) }
+}
+
+/// d, the length of an assignment that satisfies the face a and not the face b, which is in front of the output: a byte
+/// for each dimension, 0 zero, 1 one, 2 undetermined. Refused by 2, 3, 4, 6, 8, 12.
+#[inline]
+pub fn counterexample(d: u64, a: &[u8], b: &[u8], out: &mut [u8]) -> i64 {
+    unsafe { lf_counterexample(d, a.as_ptr(), a.len(), b.as_ptr(), b.len(), out.as_mut_ptr(), out.len()) }
 }
 
 /// The length of the face that a text is, which is in front of the output. Refused by 3, 4, 11, 6.

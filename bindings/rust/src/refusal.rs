@@ -6,7 +6,7 @@ use std::fmt;
 /// Why something was refused: document 01's number, what it means, what to do.
 ///
 /// All but [`NotBelow`](Self::NotBelow) and [`NotImplied`](Self::NotImplied) leave every lent byte unchanged. These two
-/// leave in the ledger the steps that were emitted before the no.
+/// leave in the ledger, where one is lent, the steps that were emitted before the no.
 ///
 /// ```
 /// use linefeijoa::{Ledger, Refusal};
@@ -56,10 +56,13 @@ pub enum Refusal {
     /// spell it with the known names, every list closed and nothing left over, in a line of at most 4,096 bytes for
     /// facesteps.
     NotAccepted,
+    /// 12: the implication holds, so there is no counterexample;
+    /// take it as the answer: entails says yes.
+    Implied,
 }
 
 impl Refusal {
-    /// Document 01's number, 1 to 11.
+    /// Document 01's number, 1 to 12.
     pub fn number(self) -> u8 {
         self.words().0
     }
@@ -88,6 +91,7 @@ impl Refusal {
             Self::NotImplied,
             Self::DoesNotFollow(step),
             Self::NotAccepted,
+            Self::Implied,
         ];
         all.into_iter().find(|refusal| refusal.number() == number)
     }
@@ -139,6 +143,9 @@ impl Refusal {
                 "spell it with the known names, every list closed and nothing left over, \
                  in a line of at most 4,096 bytes for facesteps",
             ),
+            Self::Implied => {
+                (12, "the implication holds, so there is no counterexample", "take it as the answer: entails says yes")
+            }
         }
     }
 }

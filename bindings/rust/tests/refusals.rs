@@ -144,10 +144,44 @@ fn refusal_11() {
     assert_eq!(linefeijoa::facesteps("entails z ft"), "refused 11\n");
 }
 
+#[test]
+fn refusal_12() {
+    let claim: Claim = "entails (s z) (at0 z) ft".parse().unwrap();
+    assert_eq!(claim.counterexample(), Err(Refusal::Implied));
+    assert_eq!(ledger().ask(&claim), Ok(Step::new(5)));
+    let mut out = [9; 3];
+    assert_eq!(bytes::length_of(bytes::counterexample(1, &[2, 0], &[1], &mut out)), Err(Refusal::Implied));
+    assert_eq!(out, [9; 3]);
+}
+
+/// The other refusals of a counterexample, each asked of all that it concerns before the next.
+#[test]
+fn refusals_of_a_counterexample() {
+    let (at0, high) = (&[2, 0][..], &[2, 255][..]);
+    let ask = |d, a: &[u8], b: &[u8], room: usize| {
+        let mut out = vec![9; room];
+        let refusal = bytes::refusal_of(bytes::counterexample(d, a, b, &mut out)).map(Refusal::number);
+        assert!(refusal.is_none() || out.iter().all(|byte| *byte == 9));
+        refusal
+    };
+    assert_eq!(ask(256, &wide(), &[4, 1], 0), Some(2));
+    assert_eq!(ask(256, high, &wide(), 0), Some(3));
+    assert_eq!(ask(2, high, at0, 0), Some(4));
+    assert_eq!(ask(256, at0, at0, 0), Some(4));
+    assert_eq!(ask(u64::MAX, at0, at0, 300), Some(4));
+    assert_eq!(ask(1, &[2, 1], at0, 0), Some(6));
+    assert_eq!(ask(255, at0, at0, 254), Some(6));
+    assert_eq!(ask(1, at0, &[3, 1], 1), Some(8));
+    assert_eq!(ask(0, &[0], at0, 0), Some(8));
+    assert_eq!(ask(1, at0, at0, 1), Some(12));
+    assert_eq!(ask(0, &[0], &[0], 0), Some(12));
+    assert_eq!(ask(0, &[1], &[0], 0), None);
+}
+
 /// Numbers, meanings and what to do are different for each, and every number is there.
 #[test]
 fn words() {
-    let all = (1..=11).map(|n| bytes::refusal_of(-n).unwrap()).collect::<Vec<_>>();
+    let all = (1..=12).map(|n| bytes::refusal_of(-n).unwrap()).collect::<Vec<_>>();
     for (i, refusal) in all.iter().enumerate() {
         assert_eq!(usize::from(refusal.number()), i + 1);
         assert!(refusal.to_string().starts_with(refusal.meaning()));
@@ -161,7 +195,7 @@ fn words() {
 
 #[test]
 fn numbers_that_nothing_answers() {
-    for number in [-12, -16, -17, -27, i64::MIN] {
+    for number in [-13, -16, -17, -27, -28, i64::MIN] {
         assert!(std::panic::catch_unwind(|| bytes::refusal_of(number)).is_err(), "{number}");
     }
 }

@@ -1,5 +1,5 @@
 //! Ledgers and threads.
-use linefeijoa::{Claim, Face, Interval, Ledger, Made, Record, Refusal, Rule, Step, limits};
+use linefeijoa::{Assignment, Claim, Face, Interval, Ledger, Made, Record, Refusal, Rule, Step, Value, bytes, limits};
 use std::thread;
 
 /// All of the types may be sent to another thread and looked at from several.
@@ -14,6 +14,7 @@ fn send_and_sync() {
     both::<Record<'static>>();
     both::<Refusal>();
     both::<(Rule, Step)>();
+    both::<(Assignment, Value)>();
 }
 
 /// Calls with results, refusals and a search, on a ledger of their own.
@@ -70,4 +71,18 @@ fn the_deepest_search_fits_the_stack() {
     let deepest = thread::Builder::new().stack_size(limits::STACK_BYTES);
     let answer = deepest.spawn(move || Ledger::new(1_048_576).unwrap().entails(255, &a, &b)).unwrap();
     assert_eq!(answer.join().unwrap(), Err(Refusal::FullLedger));
+}
+
+/// The same of a counterexample: 256 literals, each of which has to hold, to as many that none does.
+#[test]
+fn the_longest_counterexample_fits_the_stack() {
+    let row = |node: u8, literal: u8| [vec![node; 255], (0..=255).flat_map(|n| [literal, n % 255]).collect()].concat();
+    let (a, b) = (row(4, 2), row(5, 3));
+    let longest = thread::Builder::new().stack_size(limits::STACK_BYTES);
+    let asked = longest.spawn(move || {
+        let mut out = [9; 256];
+        (bytes::counterexample(255, &a, &b, &mut out), out)
+    });
+    let (answer, out) = asked.unwrap().join().unwrap();
+    assert_eq!((answer, &out[..255], out[255]), (255, &[0; 255][..], 9));
 }
