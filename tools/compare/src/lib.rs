@@ -1,4 +1,5 @@
 //! Our library beside the published Rust: see README.md.
+pub mod counterexamples;
 pub mod expected;
 pub mod foreign;
 pub mod lent;
@@ -9,6 +10,7 @@ pub mod lookups;
 pub mod normal;
 pub mod outputs;
 pub mod plain;
+pub mod questions;
 pub mod repeats;
 pub mod replay;
 pub mod shrink;

@@ -2,9 +2,11 @@
 //! stack that was filled with a pattern. Prints the most for each call.
 use compare::library;
 use compare::lists::{chains, largest};
+use compare::normal::parts::{choices, nested, zero, zeros};
 use compare::watched::watch::{Failure, Watch};
 use compare::watched::worker;
 use judge::call::{CALLS, Call};
+use judge::formula::{AND, FF, Tree, leaf};
 use judge::ledger::LONGEST;
 use judge::random::SHAPES;
 use judge::worst::{EMITTING, EXPONENTIAL, deep_calls, largest as largest_size, question};
@@ -27,6 +29,20 @@ fn calls() -> Vec<(String, Call)> {
     for (words, family, _) in EXPONENTIAL.iter().chain(&EMITTING) {
         let n = largest_size(*family);
         out.push((format!("{words}, n {n}"), question(*family, n)));
+    }
+    out
+}
+
+/// Questions for a counterexample that determine as much as can be, in every shape.
+fn questions() -> Vec<(String, usize, Tree, Tree)> {
+    let mut out = vec![];
+    for shape in SHAPES {
+        let literals: Vec<_> = (0..256).map(|n| zero(n % 255)).collect();
+        let (row, groups) = (nested(AND, shape, &literals), choices(0..127, shape));
+        out.push((format!("256 literals to ff, {shape:?}"), 255, row.clone(), leaf(FF)));
+        out.push((format!("256 literals to the same, {shape:?}"), 255, row.clone(), row));
+        let goal = nested(AND, shape, &zeros(0, 127));
+        out.push((format!("127 of i for i' to all zeros, {shape:?}"), 127, groups, goal));
     }
     out
 }
@@ -56,6 +72,7 @@ struct Depths {
     /// By call, then well_formed and the desk on what the calls leave.
     calls: [Deepest; CALLS.len()],
     checks: [Deepest; 2],
+    refuted: Deepest,
     runs: usize,
     given_up: Vec<String>,
 }
@@ -89,10 +106,17 @@ fn main() -> ExitCode {
             }
         }
     }
+    for (what, d, a, b) in questions() {
+        match watch.refuted(d, &a.bytes(), &b.bytes()) {
+            Ok(depth) => depths.refuted.see(depth, 0, "-", &what),
+            Err(failure) => depths.given_up.push(format!("{failure:?}: counterexample {d}, {what}")),
+        }
+    }
     println!("{} calls on ledgers of {LENGTHS:?} bytes; for each call the one that touched most stack\n", depths.runs);
     println!("| call | input | ledger, bytes | answer | stack, bytes |\n|---|---|---|---|---|");
     CALLS.iter().zip(&depths.calls).for_each(|(s, deepest)| deepest.print(s.word));
     ["well_formed", "step_desk"].iter().zip(&depths.checks).for_each(|(word, deepest)| deepest.print(word));
+    depths.refuted.print("counterexample");
     println!();
     depths.given_up.iter().for_each(|line| println!("given up after {} s, {line}", LIMIT.as_secs()));
     if depths.given_up.is_empty() { ExitCode::SUCCESS } else { ExitCode::FAILURE }

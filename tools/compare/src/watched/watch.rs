@@ -18,6 +18,18 @@ pub struct Asked {
     pub depth: usize,
 }
 
+/// What a question for a counterexample did.
+#[derive(Clone, Debug)]
+pub struct Refuted {
+    pub number: i64,
+    /// The least of the rounds.
+    pub time: Duration,
+    /// Whether the operands and all around them and the output stayed.
+    pub kept: bool,
+    /// The output, which was `Lent::pattern(room, room)` before.
+    pub out: Vec<u8>,
+}
+
 /// Why there is no answer.
 #[derive(Clone, Copy, PartialEq, Debug)]
 pub enum Failure {
@@ -115,6 +127,28 @@ impl Watch {
     /// The same on a stack that is watched.
     pub fn depth(&mut self, call: &Call) -> Result<Asked, Failure> {
         self.call("depth", call)
+    }
+    /// One question for a counterexample, in so many rounds, with an output of so many bytes. The limit is for all rounds,
+    /// but a second one starts only while they are short.
+    pub fn counterexample(
+        &mut self,
+        rounds: usize,
+        room: usize,
+        d: usize,
+        a: &[u8],
+        b: &[u8],
+    ) -> Result<Refuted, Failure> {
+        let line = self.tell(&format!("counterexample {rounds} {room} {d} {} {}", HEX(a), HEX(b)))?;
+        let words: Vec<_> = line.split(' ').collect();
+        let [number, nanos, kept, out] = words[..] else { panic!("an answer: {line}") };
+        let time = Duration::from_nanos(nanos.parse().expect("a number"));
+        let out = unhex(out).expect("bytes");
+        Ok(Refuted { number: number.parse().expect("a number"), time, kept: kept == "1", out })
+    }
+    /// The bytes of stack that a question for a counterexample touches.
+    pub fn refuted(&mut self, d: usize, a: &[u8], b: &[u8]) -> Result<usize, Failure> {
+        let [depth] = self.numbers(&format!("refuted {d} {} {}", HEX(a), HEX(b)))?;
+        Ok(depth as usize)
     }
     /// The bytes of stack that well_formed and the desk touch on the ledger as it is.
     pub fn checks(&mut self) -> Result<[usize; 2], Failure> {

@@ -4,6 +4,9 @@
 //!     ask CALL                 a call in the sample's form; number, nanoseconds, steps, used bytes
 //!     depth CALL               the same on a stack that is watched; the bytes of stack touched stand behind
 //!     checks                   the bytes of stack that well_formed and the desk touch
+//!     counterexample ROUNDS ROOM D A B    no ledger; number, the least nanoseconds, whether all around the output and the
+//!                              operands stayed, the output, which was filled beforehand
+//!     refuted D A B            the bytes of stack that a question for a counterexample touches
 //!     back                     the ledger as it was before the last call
 //!     used                     the used part of the ledger
 use crate::expected::whole;
@@ -14,6 +17,8 @@ use crate::watched::depth::Stack;
 use judge::call::Call;
 use judge::ledger;
 use judge::text::{self, HEX};
+use linefeijoa::bytes;
+use linefeijoa::limits::STACK_BYTES;
 use std::hint::black_box;
 use std::io::{BufRead, Write, stdin, stdout};
 use std::os::unix::process::parent_id;
@@ -23,6 +28,10 @@ use std::time::{Duration, Instant};
 pub const ORDER: &str = "--worker";
 /// The stack of calls whose depth is not asked for.
 const STACK: usize = 16 << 20;
+/// More than the most dimensions.
+const LONGEST_ASSIGNMENT: usize = 256;
+/// No round of a call that is timed several times starts after this time.
+const PATIENCE: Duration = Duration::from_millis(20);
 
 #[derive(Default)]
 struct Worker {
@@ -61,6 +70,41 @@ impl Worker {
         };
         format!("{answer} {time} {} {} {depth}", library::well_formed(&self.ledger), self.used())
     }
+    /// The least time of some rounds, in a thread of the stack that callers are told to have.
+    fn counterexample(order: &str) -> String {
+        let words: Vec<_> = order.split(' ').collect();
+        let [rounds, room, d, a, b] = words[..] else { panic!("no question: {order}") };
+        let number = |word: &str| word.parse::<u64>().expect("a number");
+        let [a, b] = [a, b].map(|word| text::unhex(word).expect("a face"));
+        let (x, y) = (Lent::new(&a), Lent::new(&b));
+        let (rounds, room, d) = (number(rounds), number(room) as usize, number(d));
+        on_stack(STACK_BYTES, "a counterexample", || {
+            let (begin, mut least) = (Instant::now(), Duration::MAX);
+            let mut round = 1;
+            loop {
+                let mut out = Lent::pattern(room, room);
+                let start = Instant::now();
+                let answer = bytes::counterexample(d, x.content(), y.content(), out.slice());
+                least = least.min(start.elapsed());
+                if round >= rounds || begin.elapsed() > PATIENCE {
+                    let kept = out.guarded() && x.same("a", &a).is_ok() && y.same("b", &b).is_ok();
+                    return format!("{answer} {} {} {}", least.as_nanos(), u8::from(kept), HEX(out.content()));
+                }
+                round += 1;
+            }
+        })
+    }
+    fn refuted(&mut self, order: &str) -> String {
+        let words: Vec<_> = order.split(' ').collect();
+        let [d, a, b] = words[..] else { panic!("no question: {order}") };
+        let [a, b] = [a, b].map(|word| text::unhex(word).expect("a face"));
+        let (d, mut out) = (d.parse().expect("a number"), [0; LONGEST_ASSIGNMENT]);
+        let stack = self.stack.get_or_insert_default();
+        let depth = stack.touched(|| {
+            black_box(bytes::counterexample(d, &a, &b, &mut out));
+        });
+        depth.to_string()
+    }
     fn checks(&mut self) -> String {
         let stack = self.stack.get_or_insert_default();
         let [formed, desk] = [library::well_formed, library::step_desk].map(|check| {
@@ -85,6 +129,8 @@ impl Worker {
             "ask" => self.ask(&call(), false),
             "depth" => self.ask(&call(), true),
             "checks" => self.checks(),
+            "counterexample" => Self::counterexample(rest),
+            "refuted" => self.refuted(rest),
             "back" => {
                 self.back();
                 "good".into()

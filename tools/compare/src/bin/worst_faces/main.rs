@@ -4,6 +4,7 @@
 use compare::library;
 use compare::listings::smaller::{operands, smallest_within};
 use compare::plain::steps::{Plain, records};
+use compare::questions::{Question, mutant, random_question};
 use compare::watched::watch::{Asked, Watch};
 use compare::watched::worker;
 use judge::call::Answer;
@@ -13,11 +14,8 @@ use judge::random::Random;
 use judge::session::fresh;
 use judge::text::{HEX, call_line};
 use judge::worst::{EMITTING, EXPONENTIAL, deep_calls};
-use made::{Question, mutant, random_question};
 use std::process::ExitCode;
 use std::time::{Duration, Instant};
-
-mod made;
 
 const FACES: usize = 20_000;
 const SEED: usize = 1;

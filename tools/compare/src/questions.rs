@@ -1,4 +1,4 @@
-//! Questions by chance, and changed ones.
+//! Questions whether one face implies another: by chance, and changed ones.
 use judge::call::{Call, Name};
 use judge::fixed::{and, ff, ft, zero};
 use judge::formula::{AND, AT0, AT1, FF, FT, OR, Sort, Tree, at, leaf, pair, read_whole};
