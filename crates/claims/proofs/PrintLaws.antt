@@ -12,8 +12,8 @@ use Rattle.calculus.specs.Rules.{stepAt}
 use Rattle.calculus.specs.Record.{maxLedger, size}
 use Rattle.calculus.specs.Emit.{not-below, not-implied}
 use Rattle.refusals.specs.declared.Refusal.{Refusal}
-use Rattle.refusals.specs.declared.Refusal.the-variants.{IllFormedLedger, NotAFormula, TooManyNodes, LargeDimension, LargeResult, ShortOutput, FullLedger, NotBelow, NotImplied, DoesNotFollow, NotAccepted}
 use Rattle.refusals.specs.Refusals.{number}
+use Rattle.refusals.proofs.Numbers.{number-range}
 use Rattle.replies.specs.Replying.{said}
 use Rattle.replies.specs.declared.Called.{Called}
 use Rattle.replies.specs.declared.Called.the-variants.{Step as StepAnswer, Refused as RefusedAnswer}
@@ -156,23 +156,10 @@ verdict-room e h = room-as (ap (λ (a : Called). verdictText (said a)) e) h
 pub verdict-wrote : {a b : Called} {to r : ℕ} {out out′ : List ℕ} → a ≡ b → Wrote (verdictText (said b)) out to r out′ → Wrote (verdictText (said a)) out to r out′
 verdict-wrote e w = wrote-as (ap (λ (a : Called). verdictText (said a)) (sym e)) w
 
-refusal-low : (e : Refusal) → number e ≤ 11
-refusal-low IllFormedLedger = omega arith
-refusal-low NotAFormula = omega arith
-refusal-low TooManyNodes = omega arith
-refusal-low LargeDimension = omega arith
-refusal-low LargeResult = omega arith
-refusal-low ShortOutput = omega arith
-refusal-low FullLedger = omega arith
-refusal-low NotBelow = omega arith
-refusal-low NotImplied = omega arith
-refusal-low DoesNotFollow = omega arith
-refusal-low NotAccepted = omega arith
-
 pub verdict-short : (a : Called) → ((n : ℕ) → a ≡ StepAnswer n → n < maxLedger) → length (verdictText (said a)) ≤ 1048600
 unfolding textBytes
 verdict-short (StepAnswer n) h = omega (arith, h n refl, decimal-short n, length-append (decimalText n) (10 ∷ []))
-verdict-short (RefusedAnswer e) h = let n = number e in omega (arith, refusal-low e, decimal-short n, length-append (decimalText n) (10 ∷ []))
+verdict-short (RefusedAnswer e) h = let n = number e in omega (arith, number-range e, decimal-short n, length-append (decimalText n) (10 ∷ []))
 
 -- What was asked, printed ------------------------------------------------------------------------------
 

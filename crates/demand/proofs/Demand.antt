@@ -28,7 +28,7 @@ use Rattle.calculus.proofs.Sound.{valid-true}
 use Rattle.calculus.proofs.Records.{read-ledger, ledger-read}
 use Rattle.calculus.proofs.Doors
 use Rattle.calculus.proofs.Demands.{Decided, yes-so, 8-so, 9-so, entails-decided, Fine, empty-fine, call-fine}
-use Rattle.numbers.proofs.NumberLaws.{number-range}
+use Rattle.refusals.proofs.Numbers.{number-range}
 use Rattle.exports.proofs.FitLaws.{step-low}
 use Rattle.demand.specs.Answering.{Answering, c-numbers, enums}
 use Rattle.demand.specs.Demand

@@ -10,7 +10,7 @@ use Rattle.refusals.specs.Refusals.{number}
 use Rattle.calculus.specs.Door.{answered, refused}
 use Rattle.calculus.specs.Desk.{unreadable, judged}
 use Rattle.calculus.proofs.Doors.{answer-no-refusal}
-use Rattle.numbers.proofs.NumberLaws.{number-range}
+use Rattle.refusals.proofs.Numbers.{number-range}
 use Rattle.demand.specs.Answering.{Answering, c-numbers, enums}
 
 pub record Tells (w : Answering) : Type 0 where

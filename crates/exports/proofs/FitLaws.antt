@@ -37,7 +37,9 @@ use Rattle.text.specs.Answers.{Delivered, saidLength, Lengths, BothDelivered, b
 use Rattle.text.specs.declared.Length.{Length}
 use Rattle.text.specs.declared.Claim.{Claim}
 use Rattle.grammar.proofs.Accepting.{ClaimWithin, claim-read}
-use Rattle.numbers.specs.Answers.{deskNumber, replyNumber, countNumber, claimNumber, Reads, ReadsBoth, Numbers}
+use Rattle.numbers.specs.Answers.{deskNumber, replyNumber, countNumber, claimNumber, Reads, ReadsBoth, Numbers, Exhibits}
+use Rattle.counterexample.specs.declared.Shown.{Shown}
+use Rattle.counterexample.specs.Answers.{Told, said as saidShown, Shows}
 use Rattle.numbers.specs.Packing.{Packs, ClaimFits, Low, verdictNumber}
 
 -- A ledger has fewer steps than bytes.
@@ -149,3 +151,12 @@ claim-fits {l} {a} {b} h =
           let k : BoundedAnswer (Refusals.done (record { dimensions = d; left = x; right = y })) = subst BoundedAnswer (ap (λ (z : BothDelivered). z .answer) (h .equal) ∙ ap saidClaim e) (bounded-claim l a b (readClaim l) refl) in
           (k .dimensions, k .left, k .right);
     }
+
+-- A counterexample as one number.
+pub shown-number : {d : ℕ} {a b out : List ℕ} {s : Shown} {out′ : List ℕ} {r : ℕ} → Shows d a b out s out′ → r ≡ countNumber (saidShown s) → Exhibits d a b out r out′
+shown-number h e = record {
+  found = h .found;
+  is = h .is;
+  numbered = e ∙ ap (λ (t : Told). countNumber (t .answer)) (sym (h .equal));
+  output = ap (λ (t : Told). t .output) (sym (h .equal));
+}

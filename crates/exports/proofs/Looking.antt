@@ -20,7 +20,7 @@ use Rattle.ledger.proofs.LedgerLaws.{holds-steps, holds-led, formed-at-0}
 use Rattle.lookup.specs.Lookup.{operandsStart, operandsLength, kindOf}
 use Rattle.lookup.proofs.LookupLaws.{kind-found, judgement-bytes, part-found}
 use Rattle.numbers.specs.Answers.{replyNumber, partNumber, Numbers}
-use Rattle.numbers.proofs.NumberLaws.{number-range}
+use Rattle.refusals.proofs.Numbers.{number-range}
 use Rattle.exports.proofs.FitLaws.{step-low}
 
 -- A step of the ledger l with the judgement of the call: `k` is its kind, and `x` says where its operands begin and how long they are.

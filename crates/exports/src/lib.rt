@@ -18,7 +18,7 @@ ghost use Rattle.listing.specs.Answers.{lineOf};
 ghost use Rattle.normal.specs.Answers.{normalOf};
 ghost use Rattle.claims.specs.Facesteps.{facesteps};
 ghost use Rattle.repeat_test.specs.Repeats.{repeatTest};
-ghost use Rattle.numbers.specs.Answers.{countNumber, deskNumber, repeatNumber, partNumber, Numbers, Reads, ReadsBoth, isOne};
+ghost use Rattle.numbers.specs.Answers.{countNumber, deskNumber, repeatNumber, partNumber, Numbers, Reads, Exhibits, ReadsBoth, isOne};
 
 // How many steps the ledger has, or refusal 1.
 #[no_mangle]
@@ -183,6 +183,14 @@ pub extern "C" fn lf_normal(f: &[u8], out: &mut [u8]) -> u64
     ensures { λ r. ⌜ Reads (delivered (map (encode Sort.Faces) (normalOf (now (f .entry)))) (now (out .entry))) r (now (out .exit)) ⌝ }
 {
     numbers::length(normal::length(normal::normal(f, out)))
+}
+
+// The least assignment of d dimensions that satisfies the face a and not the face b, a byte each, in front of the output.
+#[no_mangle]
+pub extern "C" fn lf_counterexample(d: u64, a: &[u8], b: &[u8], out: &mut [u8]) -> u64
+    ensures { λ r. ⌜ Exhibits d (now (a .entry)) (now (b .entry)) (now (out .entry)) r (now (out .exit)) ⌝ }
+{
+    numbers::shown(counterexample::counterexample(d as usize, a, b, out))
 }
 
 // The line of a step of the ledger, in front of the output; nothing past the last step.

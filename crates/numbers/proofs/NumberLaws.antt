@@ -1,14 +1,11 @@
 -- The numbers of answers, by their cases.
 use mathlib.Core.Path.{_≡_, refl, sym, ap, _∙_}
 use mathlib.Core.Bool.{not}
-use Prim.Native.Nat.{ℕ, zero, suc, _+_, _*_, _≤_}
-use native.Mathlib.Omega.{arith}
+use Prim.Native.Nat.{ℕ, zero, suc, _+_, _*_}
 use lib.Dec.{eqb, eqb·suc-zero}
 use Rattle.formula.specs.declared.Size.{Size}
 use Rattle.calculus.specs.Emit.{not-below, not-implied}
 use Rattle.refusals.specs.declared.Refusal.{Refusal}
-use Rattle.refusals.specs.declared.Refusal.the-variants.{IllFormedLedger, NotAFormula, TooManyNodes, LargeDimension, LargeResult, ShortOutput, FullLedger, NotBelow, NotImplied, DoesNotFollow, NotAccepted}
-use Rattle.refusals.specs.Refusals.{number}
 use Rattle.calculus.specs.Door.{refused}
 use Rattle.replies.specs.declared.Called.{Called}
 use Rattle.replies.specs.declared.Called.the-variants.{Refused as refusedBy}
@@ -16,20 +13,6 @@ use Rattle.replies.specs.declared.Made.{Made}
 use Rattle.replies.specs.declared.Made.the-variants.{Step as MadeStep, Refused as refusedMade}
 use Rattle.replies.specs.Replying.{said, saidOne, saidBoth}
 use Rattle.numbers.specs.Answers.{replyNumber, isOne}
-
--- A refusal's number is from 1 to 11.
-pub number-range : (e : Refusal) → (1 ≤ number e) × (number e ≤ 11)
-number-range IllFormedLedger = (omega arith, omega arith)
-number-range NotAFormula = (omega arith, omega arith)
-number-range TooManyNodes = (omega arith, omega arith)
-number-range LargeDimension = (omega arith, omega arith)
-number-range LargeResult = (omega arith, omega arith)
-number-range ShortOutput = (omega arith, omega arith)
-number-range FullLedger = (omega arith, omega arith)
-number-range NotBelow = (omega arith, omega arith)
-number-range NotImplied = (omega arith, omega arith)
-number-range DoesNotFollow = (omega arith, omega arith)
-number-range NotAccepted = (omega arith, omega arith)
 
 pub answer-refused : {a : Called} {e : Refusal} {r : ℕ} → a ≡ refusedBy e → r ≡ replyNumber (refused e) → r ≡ replyNumber (said a)
 answer-refused h p = p ∙ ap (λ (x : Called). replyNumber (said x)) (sym h)

@@ -1,6 +1,7 @@
 -- Answers as one number: a signed 64-bit number that is negative where the call is refused.
 use mathlib.Core.Path.{_≡_}
 use mathlib.Core.Bool.{Bool, true, false}
+use mathlib.Core.Option.{Option}
 use mathlib.Core.List.{List, [], _∷_}
 use Prim.Native.Nat.{ℕ, zero, suc, _+_, _*_, _-_}
 use Rattle.calculus.specs.Rules.{pass, fail}
@@ -11,6 +12,7 @@ use Rattle.calculus.specs.Door
 use Rattle.calculus.specs.Door.{answered, Reply}
 use Rattle.calculus.specs.Desk.{DeskAnswer, unreadable, judged}
 use Rattle.text.specs.Answers.{Delivered, Lengths, BothDelivered}
+use Rattle.counterexample.specs.Answers.{asked, Found, put}
 
 -- Refusal n is the bits of -n.
 abbrev pub refused : ℕ → ℕ
@@ -28,7 +30,7 @@ replyNumber (answered n []) = n
 replyNumber (answered n (m ∷ ms)) = n + 4294967296 * m .bytes
 replyNumber (Door.refused e) = refused (number e)
 
--- A number of steps or of bytes, or the refusal.
+-- A number of steps, bytes or dimensions, or the refusal.
 abbrev pub countNumber : Result ℕ → ℕ
 countNumber (done n) = n
 countNumber (Refusals.refused e) = refused (number e)
@@ -57,6 +59,13 @@ pub record ReadsBoth (x : BothDelivered) (r : ℕ) (a′ b′ : List ℕ) : Type
   pub numbered : r ≡ claimNumber (x .answer)
   pub left : a′ ≡ x .left
   pub right : b′ ≡ x .right
+
+-- The number of a counterexample, and every byte of its output, are those of what there is for the two faces.
+pub record Exhibits (d : ℕ) (a b out : List ℕ) (r : ℕ) (out′ : List ℕ) : Type 0 where
+  pub found : Result (Option (List ℕ))
+  pub is : Found d (asked d a b out) found
+  pub numbered : r ≡ countNumber ((put d out found) .answer)
+  pub output : out′ ≡ (put d out found) .output
 
 -- The number of a call, and every lent byte after it, are those of the calculus' reply.
 pub record Numbers (x : Reply) (r : ℕ) (l′ : List ℕ) (outs : List (List ℕ)) : Type 0 where

@@ -1,4 +1,5 @@
 // Answers as one number (specs/Answers): a refusal is negative.
+use counterexample::Shown;
 use desk::Verdict;
 use ledger::Checked;
 use lookup::Part;
@@ -15,6 +16,7 @@ ghost use Rattle.ledger.specs.Checks.{saidChecked};
 ghost use Rattle.replies.specs.Replying.{said, saidOne, saidBoth};
 ghost use Rattle.text.specs.Answers.{saidLength, saidClaim};
 ghost use Rattle.repeat_test.specs.Repeats.{said as saidRepeats};
+ghost use Rattle.counterexample.specs.Answers.{said as saidShown};
 ghost use Rattle.numbers.specs.Answers.{replyNumber, countNumber, claimNumber, repeatNumber, partNumber, isOne};
 ghost use Rattle.numbers.specs.Packing.{Packs, ClaimFits, Low, verdictNumber};
 
@@ -64,6 +66,16 @@ pub fn length(a: Length) -> u64
     match a {
         Length::Bytes(n) => n as u64,
         Length::Refused(e) => refused(e),
+    }
+}
+
+// The dimensions of an assignment that was written.
+pub fn shown(a: Shown) -> u64
+    ensures { λ r. ⌜ r ≡ countNumber (saidShown a) ⌝ }
+{
+    match a {
+        Shown::Written(d) => d as u64,
+        Shown::Refused(e) => refused(e),
     }
 }
 

@@ -13,10 +13,10 @@ use Rattle.formula.specs.Formula.{End, lo, hi, Face, ff, Interval, i0}
 use Rattle.formula.specs.Operations.{boundary, forall, Op, shift, subst as substitute, transform}
 use Rattle.refusals.specs.declared.Refusal.{Refusal}
 use Rattle.refusals.specs.declared.Refusal.the-variants.{LargeResult, ShortOutput}
-use Rattle.refusals.specs.Refusals.{Result, refused, done, map, ofOne}
+use Rattle.refusals.specs.Refusals.{Result, refused, done, map, ofOne, ofTwo}
 use Rattle.formula.specs.Bytes.{Tree, encode, encodeFace, encodeInterval, nodesFace, nodesInterval, boundFace, boundInterval}
 use Rattle.formula.specs.Answers.{pick, sizeOf, keeps, saidSized, kept, operand}
-use Rattle.operations.specs.Results.{limited, ofTwo, foralled, boundaried, transformed, Answered, AnsweredBoth}
+use Rattle.operations.specs.Results.{limited, foralled, boundaried, transformed, Answered, AnsweredBoth}
 use Rattle.passes.specs.Rewriting.{Token, tokens, tokensInterval, tokensOf, Whole, weighs, weightOf, zeroSize, plainSize, Small, spell, imageOf, Wrote, Rewritable, sides, endOf, Sided, plain, literal}
 use Rattle.operations.specs.Fitting.{resizedBy, hitSize, besideRefused, keptBytes, Fitting}
 use Rattle.formula.specs.declared.Sort.{Sort}

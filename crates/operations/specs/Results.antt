@@ -5,7 +5,7 @@ use mathlib.Core.List.{List, _++_}
 use lib.Dec.{leb}
 use lib.ListN.{length, drop}
 use Rattle.refusals.specs.declared.Refusal.the-variants.{ShortOutput}
-use Rattle.refusals.specs.Refusals.{earlier, Result, refused, done, ofOne}
+use Rattle.refusals.specs.Refusals.{Result, refused, done, ofOne, ofTwo}
 use Rattle.formula.specs.Formula.{End, Face}
 use Rattle.formula.specs.Operations.{boundary, forall, shift, subst, transform}
 use Rattle.formula.specs.Bytes.{Tree, encode}
@@ -20,13 +20,6 @@ use Rattle.formula.specs.declared.Sized.{Sized}
 -- Question 5 of a result.
 abbrev pub limited : (s : Sort) → Tree s → Result (Tree s)
 limited s t = kept (sizeOf s t) t
-
--- A result of two operands: each question is asked of both before the next.
-abbrev pub ofTwo : {A B C : Type 0} → (A → B → Result C) → Result A → Result B → Result C
-ofTwo f (refused e) (refused q) = refused (earlier e q)
-ofTwo f (refused e) (done b) = refused e
-ofTwo f (done a) (refused q) = refused q
-ofTwo f (done a) (done b) = f a b
 
 -- The result of each operation on bytes.
 unfoldable pub foralled : ℕ → List ℕ → Result Face

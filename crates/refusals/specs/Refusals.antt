@@ -3,9 +3,9 @@ use Prim.Native.Nat.{ℕ}
 use mathlib.Core.Bool.{Bool, true, false}
 use lib.Dec.{leb}
 use Rattle.refusals.specs.declared.Refusal.{Refusal}
-use Rattle.refusals.specs.declared.Refusal.the-variants.{IllFormedLedger, NotAFormula, TooManyNodes, LargeDimension, LargeResult, ShortOutput, FullLedger, NotBelow, NotImplied, DoesNotFollow, NotAccepted}
+use Rattle.refusals.specs.declared.Refusal.the-variants.{IllFormedLedger, NotAFormula, TooManyNodes, LargeDimension, LargeResult, ShortOutput, FullLedger, NotBelow, NotImplied, DoesNotFollow, NotAccepted, Implied}
 
--- The number of a refusal (document 01, "Questions at the door").
+-- The number of a refusal (document 01, "Questions at the door"; from 12 on document 02).
 abbrev pub number : Refusal → ℕ
 number IllFormedLedger = 1
 number NotAFormula = 2
@@ -18,6 +18,7 @@ number NotBelow = 8
 number NotImplied = 9
 number DoesNotFollow = 10
 number NotAccepted = 11
+number Implied = 12
 
 -- The one with the lower number: the first no decides.
 abbrev pub earlier : Refusal → Refusal → Refusal
@@ -36,3 +37,10 @@ map f (done x) = done (f x)
 abbrev pub ofOne : {A B : Type 0} → (A → Result B) → Result A → Result B
 ofOne f (refused e) = refused e
 ofOne f (done x) = f x
+
+-- The same of two: each question is asked of both before the next.
+abbrev pub ofTwo : {A B C : Type 0} → (A → B → Result C) → Result A → Result B → Result C
+ofTwo f (refused e) (refused q) = refused (earlier e q)
+ofTwo f (refused e) (done b) = refused e
+ofTwo f (done a) (refused q) = refused q
+ofTwo f (done a) (done b) = f a b

@@ -2,7 +2,7 @@
 ghost use mathlib.Core.Path.{_≡_};
 ghost use Rattle.refusals.specs.Refusals.{number as numberOf, earlier as earlierOf};
 
-// Why something is refused (document 01, "Questions at the door").
+// Why something is refused (document 01, "Questions at the door"; from Implied on document 02).
 pub enum Refusal {
     IllFormedLedger,
     NotAFormula,
@@ -15,6 +15,7 @@ pub enum Refusal {
     NotImplied,
     DoesNotFollow,
     NotAccepted,
+    Implied,
 }
 
 // Document 01's number of a refusal.
@@ -33,6 +34,7 @@ pub fn number(r: Refusal) -> usize
         Refusal::NotImplied => 9,
         Refusal::DoesNotFollow => 10,
         Refusal::NotAccepted => 11,
+        Refusal::Implied => 12,
     }
 }
 

@@ -16,8 +16,8 @@ use Rattle.formula.specs.Formula.{Face}
 use Rattle.formula.specs.Operations
 use Rattle.formula.specs.Operations.{shift, subst, transform}
 use Rattle.formula.specs.Bytes.{Tree, readAll, nodes, bound, maxNodes, maxBound}
-use Rattle.refusals.specs.Refusals.{ofOne}
-use Rattle.operations.specs.Results.{limited, ofTwo, foralled, transformed, Answered}
+use Rattle.refusals.specs.Refusals.{ofOne, ofTwo}
+use Rattle.operations.specs.Results.{limited, foralled, transformed, Answered}
 use Rattle.formula.specs.declared.Sized.{Sized}
 use Rattle.calculus.specs.Parse.{readLedger}
 use Rattle.calculus.specs.Record.{index, formula, fewNodes, lowBound}

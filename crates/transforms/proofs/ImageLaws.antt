@@ -13,14 +13,14 @@ use Rattle.operations.specs.declared.Op.{Op as Asked}
 use Rattle.operations.specs.declared.Op.the-variants.{DShift, DSubst}
 use Rattle.formula.specs.declared.Size.{Size}
 use Rattle.refusals.specs.declared.Refusal.{Refusal}
-use Rattle.refusals.specs.Refusals.{Result, refused, done, ofOne}
+use Rattle.refusals.specs.Refusals.{Result, refused, done, ofOne, ofTwo}
 use Rattle.formula.specs.declared.Sized.{Sized}
 use Rattle.formula.specs.declared.Sized.the-variants.{Fits, Refused}
 use Rattle.formula.specs.Formula.{End, lo, hi}
 use Rattle.formula.specs.Operations.{boundary, shift, subst, transform}
 use Rattle.formula.specs.Bytes.{Tree, encode, nodes, bound, maxNodes, maxBound}
 use Rattle.formula.specs.Answers.{sizeOf, treeOf, saidSized, allowed, asOperand, operand}
-use Rattle.operations.specs.Results.{limited, ofTwo, boundaried, transformed, roomed, written, Answered, AnsweredBoth}
+use Rattle.operations.specs.Results.{limited, boundaried, transformed, roomed, written, Answered, AnsweredBoth}
 use Rattle.operations.proofs.ResultLaws.{boundary-sizes}
 use Rattle.steps.specs.Trees.{Is, Known}
 use Rattle.boundary_steps.specs.Programs.{Sides}

@@ -2,7 +2,7 @@ use borrow.Author.Needs.{needs}
 use Rattle.numbers.proofs.refused.Statement.{statement}
 use Rattle.numbers.proofs.refused.Tie as tie
 use native.Mathlib.Omega.{arith}
-use Rattle.numbers.proofs.NumberLaws.{number-range}
+use Rattle.refusals.proofs.Numbers.{number-range}
 
 number-requires : tie.Need-number-requires
 number-requires c κs = search needs

@@ -1,0 +1,3 @@
+pub mod Entailing
+pub mod Least
+pub mod Ordering

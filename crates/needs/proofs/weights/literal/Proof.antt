@@ -1,0 +1,47 @@
+use borrow.Author.Needs.{needs}
+use Rattle.needs.proofs.weights.literal.Statement.{statement}
+use Rattle.needs.proofs.weights.literal.Tie as tie
+use native.Mathlib.Omega.{arith}
+use Rattle.needs.proofs.WeighLaws.{asks-inside, literal-dimension, literal-fits, literal-weighed}
+use mathlib.Core.Path.{refl}
+
+add-field : tie.Need-add-field
+add-field c = omega (arith, asks-inside (c .before .before .pre .0))
+
+dim-at-requires : tie.Need-dim-at-requires
+dim-at-requires c κs = literal-fits (c .before .before .args .f .now) (c .before .before .args .at) (c .before .before .pre .1 .0) (c .before .before .pre .1 .1) (c .before .before .pre .0)
+
+shared-slice-read-side : tie.Need-shared-slice-read-side
+shared-slice-read-side c = asks-inside (c .before .before .before .before .pre .0)
+
+cast-side : tie.Need-cast-side
+cast-side c = search needs
+
+sub-side : tie.Need-sub-side
+sub-side c = search needs
+
+shared-slice-read-cost : tie.Need-shared-slice-read-cost
+shared-slice-read-cost c = omega (arith, c .before .before .dim-at .ensures .0, literal-dimension (c .before .before .before .before .before .args .f .now) (c .before .before .before .before .before .args .at) (c .before .before .before .before .before .pre .1 .0) (c .before .before .before .before .before .pre .1 .1) (c .before .before .before .before .before .pre .0))
+
+cost-requires : tie.Need-cost-requires
+cost-requires c κs = search needs
+
+add-t11 : tie.Need-add-t11
+add-t11 c = omega (arith, literal-fits (c .before .before .before .before .before .before .args .f .now) (c .before .before .before .before .before .before .args .at) (c .before .before .before .before .before .before .pre .1 .0) (c .before .before .before .before .before .before .pre .1 .1) (c .before .before .before .before .before .before .pre .0))
+
+returns : tie.Need-returns
+returns c = literal-weighed (c .before .before .before .before .before .before .args .f .now) (c .before .before .before .before .before .before .args .at) (c .before .before .before .before .before .before .pre .1 .0) (c .before .before .before .before .before .before .pre .1 .1) (c .before .before .before .before .before .before .args .state .now) _ _ _ _ (c .before .before .before .before .before .before .pre .0) (c .cost .ensures) (c .before .before .before .dim-at .ensures .0) refl refl
+
+pub literal-spec : {M : Type 1} → statement M
+literal-spec =
+    tie.close
+    (tie.spec
+    add-field
+    dim-at-requires
+    shared-slice-read-side
+    cast-side
+    sub-side
+    shared-slice-read-cost
+    cost-requires
+    add-t11
+    returns)
