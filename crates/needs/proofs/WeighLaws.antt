@@ -1,5 +1,5 @@
 -- Laws of weighing a face in a state, by the node at its place.
-use Prim.Native.Nat.{ℕ, zero, suc, _+_, _-_, _*_, _≤_, _<_}
+use Prim.Native.Nat.{ℕ, zero, suc, _+_, _-_, _*_, _≤_, _<_, min, max}
 use native.Mathlib.Omega.{arith}
 use native.Mathlib.Decide.{ℕ-discrete}
 use mathlib.Core.Path.{_≡_, refl, sym, ap, ap₂, _∙_, subst}
@@ -18,7 +18,7 @@ use Rattle.clauses.specs.Normal.{numbered}
 use Rattle.literals.proofs.FaceLaws.{PartsAt, kind-inside, leaf-at, literal-at, parts-at, parts-same}
 use Rattle.needs.specs.declared.Weight.{Weight}
 use Rattle.needs.specs.States.{Open, any, last, Fits, chosen, undetermined, free, Within, settle, settled, occurs, Apart, bit, hits}
-use Rattle.needs.specs.Weighing.{Asks, never, Weighs, Weighed, cost, behind, heavier, lighter, summed, conjoined, constant}
+use Rattle.needs.specs.Weighing.{Asks, never, Weighs, Weighed, cost, leads, needed, conjoined, leftOver, lighter, constant}
 use Rattle.needs.specs.Marking.{Marks}
 use Rattle.needs.proofs.StateLaws.{picked, hits-sum, hits-le, hits-some, open-free, settled-at}
 
@@ -79,8 +79,8 @@ module _ (S : List ℕ) (e : End) (m j : ℕ) (low : m < length S) where
   abbrev s : ℕ
   s = getD S m 5
 
-  abbrev one-weight : ℕ → Weight
-  one-weight c = record { weight = c; dim = m; side = sideOf e; at = j }
+  abbrev one-weight : Bool → ℕ → Weight
+  one-weight t c = record { weight = c; dim = m; side = sideOf e; forced = t; at = j }
 
   literal-lower : {c : ℕ} → Costs s (sideOf e) c → (τ : List ℕ) → Within S τ → holds (at e m) (assigned τ) ≡ true → c ≤ hits (occurs (at e m)) S τ
   unfolding holds
@@ -131,8 +131,8 @@ module _ (S : List ℕ) (e : End) (m j : ℕ) (low : m < length S) where
   literal-picks (one o) h k = (low, o)
   literal-picks (out p q) h k = absurd (omega (arith, k))
 
-  pub literal-weighs : Weighs S (at e m) (one-weight (cost s (sideOf e)))
-  literal-weighs =
+  pub literal-weighs : (t : Bool) → Weighs S (at e m) (one-weight t (cost s (sideOf e)))
+  literal-weighs t =
       let k = costs s (sideOf e) (side-small e) in
       record { lower = literal-lower k; held = literal-held k; zero = literal-zero k; small = literal-small k; picks = literal-picks k }
 
@@ -167,6 +167,15 @@ module _ (S : List ℕ) (j : ℕ) where
       go (no n) = subst (λ u. Weighs S u (constant b j)) (sym (q n)) (ft-weighs b n)
 
 -- ---- two parts
+
+pos : (n : ℕ) → (n ≡ 0 → ⊥) → 0 < n
+pos zero h = absurd (h refl)
+pos (suc n) h = omega arith
+
+some-weight : (x y : ℕ) {n : ℕ} → (x ≡ 0 → y ≡ 0 → n ≡ 0) → 0 < n → 0 < x + y
+some-weight zero zero h p = absurd (omega (arith, h refl refl, p))
+some-weight zero (suc y) h p = omega arith
+some-weight (suc x) y h p = omega arith
 
 bit-or-left : (p q : Bool) → bit p ≤ bit (p || q)
 bit-or-left true q = omega arith
@@ -206,50 +215,52 @@ module _ (S : List ℕ) (a b : Face) {x y : Weight} (A : Weighs S a x) (B : Weig
   unfolding holds
   fand-zero h = let k = and-eq-true-iff (holds a (assigned (settled S))) (holds b (assigned (settled S))) .0 h in (A .zero (k .0), B .zero (k .1))
 
-  heavy-left : y .weight ≤ x .weight → Weighs S (fand a b) (behind y x)
-  heavy-left h = record {
-    lower = λ τ w k. fand-lower τ w k .0;
-    held = λ e. fand-held e (omega (arith, h, e));
-    zero = λ k. fand-zero k .0;
-    small = A .small;
-    picks = A .picks;
-  }
+  fand-needs : (m : ℕ) → (m ≡ 1 → Apart a b) → (τ : List ℕ) → Within S τ → holds (fand a b) (assigned τ) ≡ true → needed m (x .weight) (y .weight) ≤ hits (occurs (fand a b)) S τ
+  fand-needs m p τ w h = picked (λ n. n ≤ hits (occurs (fand a b)) S τ) (eqb m 1) (min never (x .weight + y .weight)) (max (x .weight) (y .weight))
+      (λ e. omega (arith, fand-sum (p (eqb-true m 1 e)) τ w h))
+      (λ e. let k = fand-lower τ w h in omega (arith, k .0, k .1))
 
-  heavy-right : x .weight ≤ y .weight → Weighs S (fand a b) y
-  heavy-right h = record {
-    lower = λ τ w k. fand-lower τ w k .1;
-    held = λ e. fand-held (omega (arith, h, e)) e;
-    zero = λ k. fand-zero k .1;
-    small = B .small;
-    picks = B .picks;
-  }
+  -- What is needed, between the needs of the parts.
+  needed-least : (m : ℕ) → (max (x .weight) (y .weight) ≤ needed m (x .weight) (y .weight)) × (needed m (x .weight) (y .weight) ≤ never) × (x .weight ≡ 0 → y .weight ≡ 0 → needed m (x .weight) (y .weight) ≡ 0)
+  needed-least m = picked (λ n. (max (x .weight) (y .weight) ≤ n) × (n ≤ never) × (x .weight ≡ 0 → y .weight ≡ 0 → n ≡ 0)) (eqb m 1) (min never (x .weight + y .weight)) (max (x .weight) (y .weight))
+      (λ e. (omega (arith, A .small, B .small), omega arith, λ p q. omega (arith, p, q)))
+      (λ e. (omega arith, omega (arith, A .small, B .small), λ p q. omega (arith, p, q)))
 
-  heavier-weighs : Weighs S (fand a b) (heavier x y)
-  heavier-weighs = picked (Weighs S (fand a b)) (leb (y .weight) (x .weight)) (behind y x) y (λ h. heavy-left (leb-true (y .weight) (x .weight) h)) (λ h. heavy-right (omega (arith, leb-false (y .weight) (x .weight) h)))
-
-  -- Which of the two the sum picks from.
-  heavier-least : ((heavier x y) .weight ≡ 0 → x .weight + y .weight ≡ 0) × ((heavier x y) .weight ≤ x .weight + y .weight)
-  heavier-least = picked (λ r. (r .weight ≡ 0 → x .weight + y .weight ≡ 0) × (r .weight ≤ x .weight + y .weight)) (leb (y .weight) (x .weight)) (behind y x) y
-      (λ h. ((λ e. omega (arith, e, leb-true (y .weight) (x .weight) h)), omega arith))
-      (λ h. ((λ e. omega (arith, e, leb-false (y .weight) (x .weight) h)), omega arith))
-
-  summed-weighs : Apart a b → Weighs S (fand a b) (summed x y)
-  summed-weighs p =
-      let k = heavier-least in
-      record {
-        lower = λ τ w h. omega (arith, fand-sum p τ w h);
-        held = λ e. fand-held (omega (arith, e)) (omega (arith, e));
-        zero = λ h. let z = fand-zero h in omega (arith, z .0, z .1);
-        small = omega arith;
-        picks = λ h i. heavier-weighs .picks (by ((heavier x y) .weight) (x .weight + y .weight) (k .0) (omega (arith, h))) (omega (arith, i, k .1));
-      }
+  -- The part that is gone on with does not hold yet.
+  leads-so : (t : Bool) → leads x y ≡ t → 0 < x .weight + y .weight → 0 < (pick t (x .weight) (y .weight))
+  leads-so t e h = go (eqb (x .weight) 0) (eqb (y .weight) 0) refl refl t e
     where
-      by : (n m : ℕ) → (n ≡ 0 → m ≡ 0) → 0 < m → 0 < n
-      by zero m k h = absurd (omega (arith, k refl, h))
-      by (suc n) m k h = omega arith
+      rest : Bool
+      rest = pick (x .forced) true (pick (y .forced) false (leb (y .weight) (x .weight)))
+
+      go : (p q : Bool) → eqb (x .weight) 0 ≡ p → eqb (y .weight) 0 ≡ q → (t : Bool) → pick p false (pick q true rest) ≡ t → 0 < (pick t (x .weight) (y .weight))
+      go true q i j true e = absurd (false≢true e)
+      go true q i j false e = omega (arith, h, eqb-true (x .weight) 0 i)
+      go false true i j true e = pos (x .weight) (eqb-false (x .weight) 0 i)
+      go false true i j false e = absurd (false≢true (sym e))
+      go false false i j true e = pos (x .weight) (eqb-false (x .weight) 0 i)
+      go false false i j false e = pos (y .weight) (eqb-false (y .weight) 0 j)
+
+  fand-picks : (m : ℕ) → 0 < needed m (x .weight) (y .weight) → needed m (x .weight) (y .weight) < never → (pick (leads x y) (x .dim) (y .dim) < length S) × Open (getD S (pick (leads x y) (x .dim) (y .dim)) 5) (pick (leads x y) (x .side) (y .side))
+  fand-picks m h k = go (leads x y) (leads-so (leads x y) refl (some-weight (x .weight) (y .weight) (needed-least m .2) h))
+    where
+      n : max (x .weight) (y .weight) ≤ needed m (x .weight) (y .weight)
+      n = needed-least m .0
+
+      go : (t : Bool) → 0 < (pick t (x .weight) (y .weight)) → (pick t (x .dim) (y .dim) < length S) × Open (getD S (pick t (x .dim) (y .dim)) 5) (pick t (x .side) (y .side))
+      go true p = A .picks p (omega (arith, n, k))
+      go false p = B .picks p (omega (arith, n, k))
 
   pub conjoined-weighs : (m : ℕ) → (m ≡ 1 → Apart a b) → Weighs S (fand a b) (conjoined m x y)
-  conjoined-weighs m p = picked (Weighs S (fand a b)) (eqb m 1) (summed x y) (heavier x y) (λ h. summed-weighs (p (eqb-true m 1 h))) (λ h. heavier-weighs)
+  conjoined-weighs m p =
+      let k = needed-least m in
+      record {
+        lower = fand-needs m p;
+        held = λ e. fand-held (omega (arith, e, k .0)) (omega (arith, e, k .0));
+        zero = λ h. let z = fand-zero h in k .2 (z .0) (z .1);
+        small = k .1;
+        picks = fand-picks m;
+      }
 
   -- A for needs what the part that needs less does.
   for-lower : (c : ℕ) → c ≤ x .weight → c ≤ y .weight → (τ : List ℕ) → Within S τ → holds (for a b) (assigned τ) ≡ true → c ≤ hits (occurs (for a b)) S τ
@@ -274,7 +285,7 @@ module _ (S : List ℕ) (a b : Face) {x y : Weight} (A : Weighs S a x) (B : Weig
       go (inr k) = omega (arith, q, B .zero k)
 
   pub lighter-weighs : Weighs S (for a b) (lighter x y)
-  lighter-weighs = picked (Weighs S (for a b)) (leb (x .weight) (y .weight)) (behind y x) y
+  lighter-weighs = picked (Weighs S (for a b)) (leb (x .weight) (y .weight)) (leftOver x (y .weight) (y .at)) (leftOver y (x .weight) (y .at))
       (λ h. let k = leb-true (x .weight) (y .weight) h in record {
         lower = for-lower (x .weight) (omega arith) k;
         held = λ e. for-held (inl e);
@@ -350,28 +361,22 @@ module _ (f : List ℕ) (i : ℕ) (h : 2 ≤ getD f i 0) (k : getD f i 0 < 4) wh
   pub literal-fits : {d : ℕ} → Asks f i d → i + 1 + dimWidth ≤ length f
   literal-fits q = literal-at f i (q .face) (q .rest) (q .bytes) h k .fits
 
-  pub literal-weighed : (S : List ℕ) (w n e j : ℕ) → Asks f i (length S) → w ≡ cost (getD S n 0) e → n ≡ dimAt f (i + 1) → e ≡ getD f i 0 - 2 → j ≡ i + 1 + dimWidth
-      → Weighed f i S (record { weight = w; dim = n; side = e; at = j })
-  literal-weighed S w n e j q pw pn pe pj = record {
+  pub literal-weighed : (S : List ℕ) (w n e : ℕ) (b : Bool) (j : ℕ) → Asks f i (length S) → w ≡ cost (getD S n 0) e → n ≡ dimAt f (i + 1) → e ≡ getD f i 0 - 2 → j ≡ i + 1 + dimWidth
+      → Weighed f i S (record { weight = w; dim = n; side = e; forced = b; at = j })
+  literal-weighed S w n e b j q pw pn pe pj = record {
     ends = λ t rest p. omega (arith, pj, literal-at f i t rest p h k .ends);
     weighs = λ t rest p.
         let s = literal-is t rest p in
         let low : n < length S = omega (arith, pn, literal-dimension q) in
-        let z = literal-weighs S (s .0) n j low in
+        let z = literal-weighs S (s .0) n j low b in
         let u : w ≡ cost (getD S n 5) (sideOf (s .0)) = pw ∙ ap₂ cost (getD-in S n 0 5 low) (pe ∙ sym (s .2)) in
-        subst (λ t. Weighs S t (record { weight = w; dim = n; side = e; at = j })) (sym (s .1 ∙ ap (at (s .0)) (sym pn)))
-        (subst (λ w. Weighs S (at (s .0) n) (record { weight = w; dim = n; side = e; at = j })) (sym u)
-        (subst (λ e. Weighs S (at (s .0) n) (record { weight = cost (getD S n 5) (sideOf (s .0)); dim = n; side = e; at = j })) (s .2 ∙ sym pe) z));
+        subst (λ t. Weighs S t (record { weight = w; dim = n; side = e; forced = b; at = j })) (sym (s .1 ∙ ap (at (s .0)) (sym pn)))
+        (subst (λ w. Weighs S (at (s .0) n) (record { weight = w; dim = n; side = e; forced = b; at = j })) (sym u)
+        (subst (λ e. Weighs S (at (s .0) n) (record { weight = cost (getD S n 5) (sideOf (s .0)); dim = n; side = e; forced = b; at = j })) (s .2 ∙ sym pe) z));
   }
 
-conjoined-at : (m : ℕ) (x y : Weight) → (conjoined m x y) .at ≡ y .at
-conjoined-at m x y = picked (λ r. r .at ≡ y .at) (eqb m 1) (summed x y) (heavier x y) (λ h. heavier-at) (λ h. heavier-at)
-  where
-    heavier-at : (heavier x y) .at ≡ y .at
-    heavier-at = picked (λ r. r .at ≡ y .at) (leb (y .weight) (x .weight)) (behind y x) y (λ h. refl) (λ h. refl)
-
 lighter-at : (x y : Weight) → (lighter x y) .at ≡ y .at
-lighter-at x y = picked (λ r. r .at ≡ y .at) (leb (x .weight) (y .weight)) (behind y x) y (λ h. refl) (λ h. refl)
+lighter-at x y = picked (λ r. r .at ≡ y .at) (leb (x .weight) (y .weight)) (leftOver x (y .weight) (y .at)) (leftOver y (x .weight) (y .at)) (λ h. refl) (λ h. refl)
 
 -- Two parts that were weighed.
 module _ (f : List ℕ) (i : ℕ) (S : List ℕ) {x y : Weight} (h : 4 ≤ getD f i 0) (A : Weighed f (i + 1) S x) (B : Weighed f (x .at) S y) where
@@ -399,7 +404,7 @@ module _ (f : List ℕ) (i : ℕ) (S : List ℕ) {x y : Weight} (h : 4 ≤ getD 
 
   pub conjoined-weighed : {marks : List ℕ} → getD f i 0 ≡ 4 → Marks f marks → Weighed f i S (conjoined (getD marks i 0) x y)
   conjoined-weighed {marks} k m = record {
-    ends = λ t rest e. conjoined-at (getD marks i 0) x y ∙ both-end t rest e;
+    ends = both-end;
     weighs = λ t rest e.
         let c = p t rest e .conjoined k in
         subst (λ u. Weighs S u (conjoined (getD marks i 0) x y)) (sym c)
@@ -412,3 +417,10 @@ module _ (f : List ℕ) (i : ℕ) (S : List ℕ) {x y : Weight} (h : 4 ≤ getD 
     weighs = λ t rest e.
         subst (λ u. Weighs S u (lighter x y)) (sym (p t rest e .disjoined k)) (lighter-weighs S (p t rest e .left) (p t rest e .right) (left-weighs t rest e) (right-weighs t rest e));
   }
+
+-- What a fand needs, put together.
+pub conjoined-by : (m : ℕ) (x y : Weight) {w : ℕ} {f t : Bool} → w ≡ needed m (x .weight) (y .weight) → f ≡ (x .forced || y .forced) → t ≡ leads x y
+    → record { weight = w; dim = pick t (x .dim) (y .dim); side = pick t (x .side) (y .side); forced = f; at = y .at } ≡ conjoined m x y
+conjoined-by m x y {t = t} p q r =
+    ap₂ (λ (w : ℕ) (f : Bool). record { weight = w; dim = pick t (x .dim) (y .dim); side = pick t (x .side) (y .side); forced = f; at = y .at }) p q
+    ∙ ap (λ (t : Bool). record { weight = needed m (x .weight) (y .weight); dim = pick t (x .dim) (y .dim); side = pick t (x .side) (y .side); forced = x .forced || y .forced; at = y .at }) r

@@ -1,7 +1,7 @@
 -- How many dimensions a face still needs in a state. These definitions serve contracts of functions that are not for callers.
-use Prim.Native.Nat.{ℕ, _+_, _≤_, _<_, min}
+use Prim.Native.Nat.{ℕ, _+_, _≤_, _<_, min, max}
 use mathlib.Core.Path.{_≡_}
-use mathlib.Core.Bool.{true}
+use mathlib.Core.Bool.{Bool, true, false, _||_}
 use mathlib.Core.List.{List, _++_}
 use lib.Dec.{leb, ltb, eqb}
 use lib.ListN.{length, getD, drop}
@@ -40,25 +40,32 @@ pub record Weighed (f : List ℕ) (i : ℕ) (S : List ℕ) (r : Weight) : Type 0
 abbrev pub cost : ℕ → ℕ → ℕ
 cost s e = pick (ltb s 2) (pick (eqb s e) 0 never) (pick (eqb s 2) 1 (pick (eqb (s + e) 4) 1 never))
 
--- A weight with the place behind another.
-abbrev pub behind : Weight → Weight → Weight
-behind y x = record { weight = x .weight; dim = x .dim; side = x .side; at = y .at }
+-- Which part of a fand is gone on with.
+abbrev pub leads : Weight → Weight → Bool
+leads x y = pick (eqb (x .weight) 0) false (pick (eqb (y .weight) 0) true (pick (x .forced) true (pick (y .forced) false (leb (y .weight) (x .weight)))))
 
--- Of two weights the one that is not less, with the place behind the second; and the one that is not more.
-abbrev pub heavier : Weight → Weight → Weight
-heavier x y = pick (leb (y .weight) (x .weight)) (behind y x) y
-
-abbrev pub lighter : Weight → Weight → Weight
-lighter x y = pick (leb (x .weight) (y .weight)) (behind y x) y
-
--- Both needs, where the parts share no literal.
-abbrev pub summed : Weight → Weight → Weight
-summed x y = record { weight = min never (x .weight + y .weight); dim = (heavier x y) .dim; side = (heavier x y) .side; at = (heavier x y) .at }
+-- The more of two needs, or both where a mark says that the parts share no literal.
+abbrev pub needed : ℕ → ℕ → ℕ → ℕ
+needed m x y = pick (eqb m 1) (min never (x + y)) (max x y)
 
 -- What a fand needs, by its mark.
 abbrev pub conjoined : ℕ → Weight → Weight → Weight
-conjoined m x y = pick (eqb m 1) (summed x y) (heavier x y)
+conjoined m x y = record {
+  weight = needed m (x .weight) (y .weight);
+  dim = pick (leads x y) (x .dim) (y .dim);
+  side = pick (leads x y) (x .side) (y .side);
+  forced = x .forced || y .forced;
+  at = y .at;
+}
+
+-- A part of a for beside one that needs so much, with the place behind the for.
+abbrev pub leftOver : Weight → ℕ → ℕ → Weight
+leftOver x other j = record { weight = x .weight; dim = x .dim; side = x .side; forced = pick (ltb other never) false (x .forced); at = j }
+
+-- What a for needs.
+abbrev pub lighter : Weight → Weight → Weight
+lighter x y = pick (leb (x .weight) (y .weight)) (leftOver x (y .weight) (y .at)) (leftOver y (x .weight) (y .at))
 
 -- What a constant with a kind byte needs, with the place behind it.
 abbrev pub constant : ℕ → ℕ → Weight
-constant b j = record { weight = pick (eqb b 0) never 0; dim = 0; side = 0; at = j }
+constant b j = record { weight = pick (eqb b 0) never 0; dim = 0; side = 0; forced = false; at = j }

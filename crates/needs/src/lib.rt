@@ -5,11 +5,13 @@ mod weights;
 pub use marks::mark;
 pub use weights::weigh;
 
-// What a face needs at least, one dimension and side that may be chosen for it, and the place behind it.
+// What a face needs at least, one dimension and side that may be chosen for it, whether the face holds nowhere without,
+// and the place behind it. Nothing is proved of `forced`: it only says what to choose first.
 pub struct Weight {
     pub weight: usize,
     pub dim: usize,
     pub side: usize,
+    pub forced: bool,
     pub at: usize,
 }
 

@@ -27,7 +27,7 @@ fn is_literal(f: &[u8], at: usize, n: usize, side: usize) -> Seen
     }
 }
 
-fn either(x: bool, y: bool) -> bool
+pub(crate) fn either(x: bool, y: bool) -> bool
     ensures { λ r. ⌜ r ≡ x || y ⌝ }
 {
     if x {

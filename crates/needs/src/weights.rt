@@ -1,9 +1,10 @@
 // What a face still needs.
 use crate::Weight;
+use crate::marks;
 ghost use mathlib.Core.Path.{_≡_};
-ghost use Prim.Native.Nat.{_≤_, _<_, min};
+ghost use Prim.Native.Nat.{_≤_, _<_};
 ghost use lib.ListN.{length, getD};
-ghost use Rattle.needs.specs.Weighing.{Asks, never, Weighed, cost as costOf, behind as behindOf, heavier as heavierOf, lighter as lighterOf, summed as summedOf, conjoined as conjoinedOf, constant as constantOf};
+ghost use Rattle.needs.specs.Weighing.{Asks, never, Weighed, cost as costOf, leads as leadsOf, needed as neededOf, conjoined as conjoinedOf, leftOver, lighter as lighterOf, constant as constantOf};
 ghost use Rattle.needs.specs.Marking.{Marks};
 
 // More than any face needs: where it can't hold.
@@ -30,44 +31,39 @@ fn cost(s: u8, side: usize) -> usize
     NEVER
 }
 
-fn behind(y: Weight, x: Weight) -> Weight
-    ensures { λ r. ⌜ r ≡ behindOf y x ⌝ }
+// Whether of the two parts of a fand the first is gone on with: one that does not hold yet, what it can't do without
+// before all else, and then the one that needs more.
+fn leads(x: Weight, y: Weight) -> bool
+    ensures { λ r. ⌜ r ≡ leadsOf x y ⌝ }
 {
-    Weight {
-        weight: x.weight,
-        dim: x.dim,
-        side: x.side,
-        at: y.at,
+    if x.weight == 0 {
+        return false;
     }
+    if y.weight == 0 {
+        return true;
+    }
+    if x.forced {
+        return true;
+    }
+    if y.forced {
+        return false;
+    }
+    y.weight <= x.weight
 }
 
-// Of two parts the one that needs more.
-fn heavier(x: Weight, y: Weight) -> Weight
-    ensures { λ r. ⌜ r ≡ heavierOf x y ⌝ }
+// What a fand needs of which the parts need so many, by its mark: the more of the two, or both where they share no literal.
+fn needed(mark: u8, x: usize, y: usize) -> usize
+    requires { ⌜ (x ≤ never) × (y ≤ never) ⌝ }
+    ensures { λ r. ⌜ r ≡ neededOf mark x y ⌝ }
 {
-    if y.weight <= x.weight {
-        return behind(y, x);
+    if mark == 1 {
+        let sum = x + y;
+        if sum < NEVER {
+            return sum;
+        }
+        return NEVER;
     }
-    y
-}
-
-// Of two parts the one that needs less.
-fn lighter(x: Weight, y: Weight) -> Weight
-    ensures { λ r. ⌜ r ≡ lighterOf x y ⌝ }
-{
-    if x.weight <= y.weight {
-        return behind(y, x);
-    }
-    y
-}
-
-fn capped(n: usize) -> usize
-    ensures { λ r. ⌜ r ≡ min never n ⌝ }
-{
-    if n < NEVER {
-        return n;
-    }
-    NEVER
+    formula::larger(x, y)
 }
 
 // What a fand needs, by its mark.
@@ -75,16 +71,56 @@ fn conjoined(mark: u8, x: Weight, y: Weight) -> Weight
     requires { ⌜ (x .weight ≤ never) × (y .weight ≤ never) ⌝ }
     ensures { λ r. ⌜ r ≡ conjoinedOf mark x y ⌝ }
 {
-    let more = heavier(x, y);
-    if mark == 1 {
+    let weight = needed(mark, x.weight, y.weight);
+    let forced = marks::either(x.forced, y.forced);
+    if leads(x, y) {
         return Weight {
-            weight: capped(x.weight + y.weight),
-            dim: more.dim,
-            side: more.side,
-            at: more.at,
+            weight,
+            dim: x.dim,
+            side: x.side,
+            forced,
+            at: y.at,
         };
     }
-    more
+    Weight {
+        weight,
+        dim: y.dim,
+        side: y.side,
+        forced,
+        at: y.at,
+    }
+}
+
+// What a for needs: the less of its two parts, which is all that is left where the other can't hold.
+fn lighter(x: Weight, y: Weight) -> Weight
+    ensures { λ r. ⌜ r ≡ lighterOf x y ⌝ }
+{
+    if x.weight <= y.weight {
+        return left_over(x, y.weight, y.at);
+    }
+    left_over(y, x.weight, y.at)
+}
+
+// A part of a for beside one that needs so much, with the place behind the for.
+fn left_over(x: Weight, other: usize, at: usize) -> Weight
+    ensures { λ r. ⌜ r ≡ leftOver x other at ⌝ }
+{
+    if other < NEVER {
+        return Weight {
+            weight: x.weight,
+            dim: x.dim,
+            side: x.side,
+            forced: false,
+            at,
+        };
+    }
+    Weight {
+        weight: x.weight,
+        dim: x.dim,
+        side: x.side,
+        forced: x.forced,
+        at,
+    }
 }
 
 // What the literal at a place needs.
@@ -96,10 +132,12 @@ fn literal(f: &[u8], at: usize, state: &[u8]) -> Weight
     let field = at + 1;
     let dim = formula::dim_at(f, field);
     let side = f[at] as usize - 2;
+    let weight = cost(state[dim], side);
     Weight {
-        weight: cost(state[dim], side),
+        weight,
         dim,
         side,
+        forced: weight == 1,
         at: field + formula::DIM,
     }
 }
@@ -113,6 +151,7 @@ fn constant(kind: u8, next: usize) -> Weight
             weight: NEVER,
             dim: 0,
             side: 0,
+            forced: false,
             at: next,
         };
     }
@@ -120,6 +159,7 @@ fn constant(kind: u8, next: usize) -> Weight
         weight: 0,
         dim: 0,
         side: 0,
+        forced: false,
         at: next,
     }
 }

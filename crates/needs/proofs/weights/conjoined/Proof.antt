@@ -1,26 +1,24 @@
 use borrow.Author.Needs.{needs}
 use Rattle.needs.proofs.weights.conjoined.Statement.{statement}
 use Rattle.needs.proofs.weights.conjoined.Tie as tie
-use mathlib.Core.Path.{_∙_}
-use borrow.Author.Tests.{eq-eqb, ne-eqb}
-use mathlib.Core.Path.{ap₂, _∙_}
-use Prim.Native.Nat.{ℕ}
-use Rattle.needs.specs.declared.Weight.{Weight}
+use mathlib.Core.Path.{sym, _∙_}
+use Rattle.needs.proofs.WeighLaws.{conjoined-by}
 
-heavier-requires : tie.Need-heavier-requires
-heavier-requires c κs = search needs
+needed-requires : tie.Need-needed-requires
+needed-requires c κs = search needs
 
-add-capped : tie.Need-add-capped
-add-capped c = search needs
+either-requires : tie.Need-either-requires
+either-requires c κs = search needs
 
-capped-requires : tie.Need-capped-requires
-capped-requires c κs = search needs
+leads-requires : tie.Need-leads-requires
+leads-requires c κs = search needs
 
 returns : tie.Need-returns
-returns c = ap₂ (λ (w : ℕ) (h : Weight). record { weight = w; dim = h .dim; side = h .side; at = h .at }) (c .capped .ensures) (c .before .before .before .before .heavier .ensures) ∙ rw (eq-eqb (c .before .before .before .before .before .args .mark) 1 (c .before .before .before .if1 .taken))
+returns c = conjoined-by (c .before .before .before .before .args .mark) (c .before .before .before .before .args .x) (c .before .before .before .before .args .y) (c .before .before .before .needed .ensures) (c .before .before .either .ensures) (sym (c .if1 .taken) ∙ c .before .leads .ensures)
 
 returns-2 : tie.Need-returns-2
-returns-2 c = c .before .heavier .ensures ∙ rw (ne-eqb (c .before .before .args .mark) 1 (c .if1 .left))
+returns-2 c = conjoined-by (c .before .before .before .before .args .mark) (c .before .before .before .before .args .x) (c .before .before .before .before .args .y) (c .before .before .before .needed .ensures) (c .before .before .either .ensures) (sym (c .if1 .left) ∙ c .before .leads .ensures)
 
 pub conjoined-spec : {M : Type 1} → statement M
-conjoined-spec = tie.close (tie.spec heavier-requires add-capped capped-requires returns returns-2)
+conjoined-spec =
+    tie.close (tie.spec needed-requires either-requires leads-requires returns returns-2)

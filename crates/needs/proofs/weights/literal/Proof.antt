@@ -26,11 +26,11 @@ shared-slice-read-cost c = omega (arith, c .before .before .dim-at .ensures .0, 
 cost-requires : tie.Need-cost-requires
 cost-requires c κs = search needs
 
-add-t11 : tie.Need-add-t11
-add-t11 c = omega (arith, literal-fits (c .before .before .before .before .before .before .args .f .now) (c .before .before .before .before .before .before .args .at) (c .before .before .before .before .before .before .pre .1 .0) (c .before .before .before .before .before .before .pre .1 .1) (c .before .before .before .before .before .before .pre .0))
+add-t10 : tie.Need-add-t10
+add-t10 c = omega (arith, literal-fits (c .before .before .before .before .before .before .args .f .now) (c .before .before .before .before .before .before .args .at) (c .before .before .before .before .before .before .pre .1 .0) (c .before .before .before .before .before .before .pre .1 .1) (c .before .before .before .before .before .before .pre .0))
 
 returns : tie.Need-returns
-returns c = literal-weighed (c .before .before .before .before .before .before .args .f .now) (c .before .before .before .before .before .before .args .at) (c .before .before .before .before .before .before .pre .1 .0) (c .before .before .before .before .before .before .pre .1 .1) (c .before .before .before .before .before .before .args .state .now) _ _ _ _ (c .before .before .before .before .before .before .pre .0) (c .cost .ensures) (c .before .before .before .dim-at .ensures .0) refl refl
+returns c = literal-weighed (c .before .before .before .before .before .before .args .f .now) (c .before .before .before .before .before .before .args .at) (c .before .before .before .before .before .before .pre .1 .0) (c .before .before .before .before .before .before .pre .1 .1) (c .before .before .before .before .before .before .args .state .now) _ _ _ _ _ (c .before .before .before .before .before .before .pre .0) (c .cost .ensures) (c .before .before .before .dim-at .ensures .0) refl refl
 
 pub literal-spec : {M : Type 1} → statement M
 literal-spec =
@@ -43,5 +43,5 @@ literal-spec =
     sub-side
     shared-slice-read-cost
     cost-requires
-    add-t11
+    add-t10
     returns)
