@@ -1,5 +1,5 @@
 //! The times of counterexamples: loads, families, and the worst of many questions by chance and changed ones.
-//! usage: counterexample_times [FACES] [SEED] [SECONDS]
+//! usage: counterexample_times [FACES] [SEED] [SECONDS] [MILLISECONDS]
 use compare::counterexamples::made::pair_by_chance;
 use compare::counterexamples::model::determined;
 use compare::normal::parts::{conjunction, either, one, zero, zeros};
@@ -11,14 +11,16 @@ use judge::formula::{FF, Tree, leaf};
 use judge::ledger::MOST_NODES;
 use judge::random::Random;
 use judge::text::HEX;
+use std::sync::OnceLock;
 use std::time::{Duration, Instant};
 
 const FACES: usize = 20_000;
 const SEED: usize = 1;
 /// No question by chance is begun after so many seconds.
 const SECONDS: usize = 900;
-/// A question that takes longer is given up.
-const LIMIT: Duration = Duration::from_secs(20);
+/// A question that takes longer, in milliseconds, is given up.
+const MILLISECONDS: usize = 20_000;
+static LIMIT: OnceLock<Duration> = OnceLock::new();
 /// Rounds of the loads and the families, of which the least counts.
 const ROUNDS: usize = 20;
 /// Seeds of the loads, and what is added for the second face.
@@ -34,8 +36,12 @@ const ROOM: usize = 255;
 /// Bounds of the rows of times, in microseconds.
 const BOUNDS: [u64; 10] = [10, 100, 1_000, 10_000, 100_000, 1_000_000, 2_000_000, 10_000_000, 20_000_000, u64::MAX];
 
+fn limit() -> Duration {
+    *LIMIT.get().expect("the limit is set at the start")
+}
+
 fn late() -> String {
-    format!("over {} s", LIMIT.as_secs())
+    format!("over {} s", limit().as_secs_f64())
 }
 
 fn micros(time: Duration) -> String {
@@ -71,7 +77,7 @@ fn loads(watch: &mut Watch) {
                 for seed in 1..=SEEDS {
                     let b = if load_of_b { load(seed + OTHER, leaves, d) } else { leaf(FF) };
                     let asked = ask(watch, ROUNDS, d as usize, &load(seed, leaves, d), &b);
-                    times.push((asked.as_ref().map_or(LIMIT, |r| r.time), seed, asked));
+                    times.push((asked.as_ref().map_or(limit(), |r| r.time), seed, asked));
                 }
                 times.sort_by_key(|(time, seed, _)| (*time, *seed));
                 let found = times.iter().filter(|(_, _, asked)| asked.as_ref().is_some_and(|r| r.number >= 0)).count();
@@ -119,7 +125,7 @@ struct Found {
 
 impl Found {
     fn time(&self) -> Duration {
-        self.asked.as_ref().map_or(LIMIT, |r| r.time)
+        self.asked.as_ref().map_or(limit(), |r| r.time)
     }
     fn print(&self) {
         let Question { a, b } = &self.question;
@@ -179,11 +185,12 @@ fn main() {
     if worker::served() {
         return;
     }
-    let usage = "usage: counterexample_times [FACES] [SEED] [SECONDS]";
+    let usage = "usage: counterexample_times [FACES] [SEED] [SECONDS] [MILLISECONDS]";
     let mut words = std::env::args().skip(1).map(|w| w.parse::<usize>().expect(usage));
     let mut word = |otherwise| words.next().unwrap_or(otherwise);
     let (most, seed, seconds) = (word(FACES), word(SEED), word(SECONDS));
-    let mut watch = Watch::new(LIMIT);
+    let limit = *LIMIT.get_or_init(|| Duration::from_millis(word(MILLISECONDS) as u64));
+    let mut watch = Watch::new(limit);
     loads(&mut watch);
     families(&mut watch);
     search(&mut watch, most, seed, Duration::from_secs(seconds as u64));
