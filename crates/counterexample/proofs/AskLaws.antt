@@ -26,7 +26,8 @@ use Rattle.assignments.specs.Assignments.{Assigns, determined, Refutes, Least}
 use Rattle.assignments.proofs.Ordering.{determined-long}
 use Rattle.assignments.proofs.Entailing.{bytesOf, bytes-assigns, holds-bytes}
 use Rattle.needs.specs.States.{any, Fits as Allows, undetermined, free, Within}
-use Rattle.needs.specs.Marking.{Marks, Stands}
+use Rattle.needs.specs.Places.{Stands}
+use Rattle.needs.specs.Marking.{Marks}
 use Rattle.counterexample.specs.declared.Shown.{Shown}
 use Rattle.counterexample.specs.declared.Shown.the-variants.{Written, Refused}
 use Rattle.counterexample.specs.Answers.{Claim, numbered, admitted, asked, Found, before, sought, ShowsFor, Shows}
@@ -52,7 +53,7 @@ refused-shows {d} {out} e h = record { found = refused e; is = subst (λ x. Foun
 same-face : (x y : Face) → encodeFace x ≡ encodeFace y → x ≡ y
 same-face x y e = Option·some-injective _ _ (sym (readAll-encode Faces x) ∙ ap (readAll Faces) e ∙ readAll-encode Faces y)
 
-pub stands-front : (f : List ℕ) (t : Face) → f ≡ encodeFace t → Stands f 0
+abbrev pub stands-front : (f : List ℕ) (t : Face) → f ≡ encodeFace t → Stands f 0
 stands-front f t e = record { face = t; rest = []; bytes = e ∙ sym (append-nil (encodeFace t)) }
 
 -- So many equal bytes.
@@ -109,9 +110,9 @@ module _ (d : ℕ) (few : d ≤ 255) where
   start-allows τ a = subst (λ S. Within S τ) (sym start-is) (all-allowed d τ (a .long) (a .each))
 
   pub start-ready : {a marks b plain out : List ℕ} → Sought d a b out → Marks a marks → length marks ≡ 1024 → Marks b plain → length plain ≡ 1024 → Ready a marks b plain start 0 (take d out) (d + 1)
-  start-ready {out = out} s m l p k = record {
-    left = record { face = s .claim .left; rest = []; bytes = s .left ∙ sym (append-nil (encodeFace (s .claim .left))); low = omega (arith, s .low, start-long) };
-    goal = record { face = s .claim .goal; rest = []; bytes = s .goal ∙ sym (append-nil (encodeFace (s .claim .goal))); low = omega (arith, s .high, start-long) };
+  start-ready {a} {b = b} {out = out} s m l p k = record {
+    left = record { stands = stands-front a (s .claim .left) (s .left); low = omega (arith, s .low, start-long) };
+    goal = record { stands = stands-front b (s .claim .goal) (s .goal); low = omega (arith, s .high, start-long) };
     marked = m;
     unmarked = p;
     room = omega (arith, s .short, l);

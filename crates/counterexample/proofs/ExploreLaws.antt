@@ -18,7 +18,7 @@ use Rattle.assignments.proofs.Ordering.{Compared, earlier, equal, later, compar
 use Rattle.needs.specs.declared.Weight.{Weight}
 use Rattle.needs.specs.States.{Open, Within, settled, occurs}
 use Rattle.needs.specs.Weighing.{Weighs, Weighed}
-use Rattle.needs.proofs.WeighLaws.{getD-in}
+use Rattle.needs.proofs.WeighLaws.{pos, getD-in}
 use Rattle.needs.proofs.StateLaws.{within-count, open-free, settled-at, settled-long, settled-count, settle-small, settled-below}
 use Rattle.counterexample.specs.Exploring.{precedes, hopeless, without, Beaten, Kept, unchanged, better, Explored, Ready, Explores}
 use Rattle.counterexample.proofs.OrderLaws.{precede-sound, precede-settled}
@@ -146,7 +146,7 @@ module _ {a marks b plain S : List ℕ} {chosen : ℕ} {B : List ℕ} {count : �
 
   module _ {w : Weight} (W : Weighed a 0 S w) where
     pub total-small : chosen + w .weight ≤ 1255
-    total-small = omega (arith, P .counted, determined-long S, P .narrow, front W (P .left .face) (P .left .rest) (P .left .bytes) .small)
+    total-small = omega (arith, P .counted, determined-long S, P .narrow, front W (P .left .stands .face) (P .left .stands .rest) (P .left .stands .bytes) .small)
 
     counted-so : {r : Bool} → r ≡ hopeless S B (w .weight) (chosen + w .weight) count → hopeless S B (w .weight) (determined S + w .weight) count ≡ r
     counted-so h = ap (λ n. hopeless S B (w .weight) (n + w .weight) count) (sym (P .counted)) ∙ sym h
@@ -164,14 +164,10 @@ module _ {a marks b plain S : List ℕ} {chosen : ℕ} {B : List ℕ} {count : �
 
       module _ (n : w .weight ≡ 0 → ⊥) where
         can-hold : w .weight ≤ 256
-        can-hold = let α = P .left .face in omega (arith, hopeful α α S (front W α (P .left .rest) (P .left .bytes)) count B (counted-so h ∙ no), P .few)
+        can-hold = let α = P .left .stands .face in omega (arith, hopeful α α S (front W α (P .left .stands .rest) (P .left .stands .bytes)) count B (counted-so h ∙ no), P .few)
 
         pub picks : (w .dim < length S) × Open (getD S (w .dim) 5) (w .side)
-        picks = front W (P .left .face) (P .left .rest) (P .left .bytes) .picks (positive (w .weight) n) (omega (arith, can-hold))
-          where
-            positive : (m : ℕ) → (m ≡ 0 → ⊥) → 0 < m
-            positive zero n = absurd (n refl)
-            positive (suc m) n = omega arith
+        picks = front W (P .left .stands .face) (P .left .stands .rest) (P .left .stands .bytes) .picks (pos (w .weight) n) (omega (arith, can-hold))
 
         abbrev i : ℕ
         i = w .dim
@@ -182,8 +178,8 @@ module _ {a marks b plain S : List ℕ} {chosen : ℕ} {B : List ℕ} {count : �
         -- The literal chosen.
         pub chosen-ready : Ready a marks b plain (set S i e) (chosen + 1) B count
         chosen-ready = record {
-          left = record { face = P .left .face; rest = P .left .rest; bytes = P .left .bytes; low = omega (arith, P .left .low, length-set S i e) };
-          goal = record { face = P .goal .face; rest = P .goal .rest; bytes = P .goal .bytes; low = omega (arith, P .goal .low, length-set S i e) };
+          left = record { stands = P .left .stands; low = omega (arith, P .left .low, length-set S i e) };
+          goal = record { stands = P .goal .stands; low = omega (arith, P .goal .low, length-set S i e) };
           marked = P .marked;
           unmarked = P .unmarked;
           room = P .room;
@@ -212,15 +208,15 @@ module _ {a marks b plain S : List ℕ} {chosen : ℕ} {B : List ℕ} {count : �
           inside-first = omega (arith, picks .0, ap length (X .restored), length-set S i e)
 
           fewer-first : c₁ ≤ count
-          fewer-first = X .it (P .left .face) (P .goal .face) (P .left .rest) (P .goal .rest) (P .left .bytes) (P .goal .bytes) .fewer
+          fewer-first = let l = P .left .stands in let g = P .goal .stands in X .it (l .face) (g .face) (l .rest) (g .rest) (l .bytes) (g .bytes) .fewer
 
           long-two : length S₂ ≡ length S
           long-two = length-set S i (without (getD S i 5) e)
 
           pub without-ready : Ready a marks b plain (set S₁ i v) chosen B₁ c₁
           without-ready = subst (λ l. Ready a marks b plain l chosen B₁ c₁) (sym given-up-state) (record {
-            left = record { face = P .left .face; rest = P .left .rest; bytes = P .left .bytes; low = omega (arith, P .left .low, long-two) };
-            goal = record { face = P .goal .face; rest = P .goal .rest; bytes = P .goal .bytes; low = omega (arith, P .goal .low, long-two) };
+            left = record { stands = P .left .stands; low = omega (arith, P .left .low, long-two) };
+            goal = record { stands = P .goal .stands; low = omega (arith, P .goal .low, long-two) };
             marked = P .marked;
             unmarked = P .unmarked;
             room = P .room;

@@ -7,6 +7,7 @@ use mathlib.Core.List.{List}
 use lib.Dec.{leb}
 use lib.ListN.{length}
 use lib.Seq.{sets}
+use Rattle.refusals.specs.declared.Refusal.{Refusal}
 use Rattle.refusals.specs.declared.Refusal.the-variants.{LargeDimension, ShortOutput, NotBelow, Implied}
 use Rattle.refusals.specs.Refusals.{Result, refused, done, ofOne, ofTwo}
 use Rattle.formula.specs.Formula.{Face, Entails}
@@ -41,7 +42,7 @@ Behind d c (some l) = Least d (c .left) (c .goal) l
 
 -- What there is for what was asked: a refusal stays one.
 pub data Found (d : ℕ) : Result Claim → Result (Option (List ℕ)) → Type 0 where
-  before : {e : _} → Found d (refused e) (refused e)
+  before : {e : Refusal} → Found d (refused e) (refused e)
   sought : {c : Claim} (x : Option (List ℕ)) → Behind d c x → Found d (done c) (done x)
 
 -- The number of dimensions or a refusal, and the output's bytes.

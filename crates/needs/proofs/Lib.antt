@@ -1,3 +1,4 @@
+pub mod PlaceLaws
 pub mod StateLaws
 pub mod WeighLaws
 pub mod MarkLaws

@@ -15,59 +15,9 @@ use Rattle.formula.specs.Bytes.{dimWidth, dimAt, encodeFace}
 use Rattle.calculus.proofs.Sound.{or-iff}
 use Rattle.literals.proofs.FaceLaws.{PartsAt, kind-inside, leaf-at, literal-at, parts-at, leaf-same, parts-same}
 use Rattle.needs.specs.States.{occurs, Apart}
-use Rattle.needs.specs.Marking.{Marks, Stands, Meets, Shares, Marked}
-use Rattle.needs.proofs.WeighLaws.{sideOf, literal-is}
-
--- ---- faces at places
-
-module _ {f : List ℕ} {i : ℕ} (q : Stands f i) where
-  pub stands-inside : i < length f
-  stands-inside = kind-inside f i (q .face) (q .rest) (q .bytes)
-
-  pub literal-inside : 2 ≤ getD f i 0 → getD f i 0 < 4 → i + 1 + dimWidth ≤ length f
-  literal-inside h k = literal-at f i (q .face) (q .rest) (q .bytes) h k .fits
-
-  abbrev parts : 4 ≤ getD f i 0 → PartsAt f i (q .face) (q .rest)
-  parts h = parts-at f i (q .face) (q .rest) (q .bytes) h
-
-  pub first-stands : 4 ≤ getD f i 0 → Stands f (i + 1)
-  first-stands h = record { face = parts h .left; rest = encodeFace (parts h .right) ++ q .rest; bytes = parts h .first }
-
-  -- A place behind the first part.
-  module _ {j : ℕ} (h : 4 ≤ getD f i 0) (e : (t : Face) (rest : List ℕ) → drop (i + 1) f ≡ encodeFace t ++ rest → j ≡ i + 1 + length (encodeFace t)) where
-    at-middle : j ≡ i + 1 + length (encodeFace (parts h .left))
-    at-middle = e (parts h .left) (encodeFace (parts h .right) ++ q .rest) (parts h .first)
-
-    pub second-behind : i < j
-    second-behind = omega (arith, at-middle)
-
-    pub second-stands : Stands f j
-    second-stands = record { face = parts h .right; rest = q .rest; bytes = ap (λ n. drop n f) at-middle ∙ parts h .second }
-
--- The place behind a leaf, a literal, and two parts.
-module _ (f : List ℕ) (i : ℕ) where
-  abbrev pub Ends : ℕ → Type 0
-  Ends j = (t : Face) (rest : List ℕ) → drop i f ≡ encodeFace t ++ rest → j ≡ i + length (encodeFace t)
-
-  pub leaf-ends : getD f i 0 < 2 → Ends (i + 1)
-  leaf-ends h t rest e = omega (arith, leaf-at f i t rest e h .ends)
-
-  pub literal-ends : 2 ≤ getD f i 0 → getD f i 0 < 4 → Ends (i + 1 + dimWidth)
-  literal-ends h k t rest e = omega (arith, literal-at f i t rest e h k .ends)
-
-module _ (f : List ℕ) (i : ℕ) {j k : ℕ} (h : 4 ≤ getD f i 0) (A : Ends f (i + 1) j) (B : Ends f j k) where
-  module _ (t : Face) (rest : List ℕ) (e : drop i f ≡ encodeFace t ++ rest) where
-    abbrev p : PartsAt f i t rest
-    p = parts-at f i t rest e h
-
-    middle : j ≡ i + 1 + length (encodeFace (p .left))
-    middle = A (p .left) (encodeFace (p .right) ++ rest) (p .first)
-
-    pub second : drop j f ≡ encodeFace (p .right) ++ rest
-    second = ap (λ n. drop n f) middle ∙ p .second
-
-  pub parts-end : Ends f i k
-  parts-end t rest e = omega (arith, middle t rest e, B (p t rest e .right) rest (second t rest e), p t rest e .ends)
+use Rattle.needs.specs.Places.{Ends}
+use Rattle.needs.specs.Marking.{Marks, Meets, Shares, Marked}
+use Rattle.needs.proofs.PlaceLaws.{leaf-ends, literal-ends, parts-end, second, sideOf, literal-is}
 
 -- ---- one literal
 
@@ -96,7 +46,7 @@ parts-meet f i n v {r = r} {s} h A B = record {
   found = λ t rest e.
       let p = parts-at f i t rest e h in
       let x : r ≡ occurs (p .left) n v = A .found (p .left) (encodeFace (p .right) ++ rest) (p .first) in
-      let y : s ≡ occurs (p .right) n v = B .found (p .right) rest (second f i h (A .ends) (B .ends) t rest e) in
+      let y : s ≡ occurs (p .right) n v = B .found (p .right) rest (second f i h (A .ends) t rest e) in
       ap (λ b. b || s) x ∙ ap (λ b. occurs (p .left) n v || b) y ∙ sym (parts-same (λ t. occurs t n v) p refl refl);
 }
 
@@ -131,7 +81,7 @@ parts-share f i k {r = r} {s} h A B = record {
       let p = parts-at f i t rest e h in
       let w = or-false r s z in
       let x : Apart (p .left) u = A .apart (p .left) (encodeFace (p .right) ++ rest) (p .first) u more g (w .0) in
-      let y : Apart (p .right) u = B .apart (p .right) rest (second f i h (A .ends) (B .ends) t rest e) u more g (w .1) in
+      let y : Apart (p .right) u = B .apart (p .right) rest (second f i h (A .ends) t rest e) u more g (w .1) in
       ⊎-elim (λ c. x n v c b) (λ c. y n v c b) (or-iff (occurs (p .left) n v) (occurs (p .right) n v) .0 (sym (parts-same (λ t. occurs t n v) p refl refl) ∙ a));
 }
 

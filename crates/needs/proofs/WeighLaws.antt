@@ -17,9 +17,11 @@ use Rattle.calculus.proofs.Sound.{or-iff}
 use Rattle.clauses.specs.Normal.{numbered}
 use Rattle.literals.proofs.FaceLaws.{PartsAt, kind-inside, leaf-at, literal-at, parts-at, parts-same}
 use Rattle.needs.specs.declared.Weight.{Weight}
+use Rattle.needs.specs.Places.{Stands, Ends}
 use Rattle.needs.specs.States.{Open, any, last, Fits, chosen, undetermined, free, Within, settle, settled, occurs, Apart, bit, hits}
 use Rattle.needs.specs.Weighing.{Asks, never, Weighs, Weighed, cost, leads, needed, conjoined, leftOver, lighter, constant}
 use Rattle.needs.specs.Marking.{Marks}
+use Rattle.needs.proofs.PlaceLaws.{sideOf, parts, first-stands, second-stands, leaf-ends, literal-ends, second, parts-end, literal-is}
 use Rattle.needs.proofs.StateLaws.{picked, hits-sum, hits-le, hits-some, open-free, settled-at}
 
 -- ---- literals
@@ -41,11 +43,6 @@ costs s e k =
     (λ h. picked (Costs s e) (eqb s e) 0 never (λ i. free-of (ltb-true s 2 h) (eqb-true s e i)) (λ i. other (ltb-true s 2 h) (eqb-false s e i)))
     (λ h. picked (Costs s e) (eqb s 2) 1 (pick (eqb (s + e) 4) 1 never) (λ i. one (any (eqb-true s 2 i) k))
     (λ i. picked (Costs s e) (eqb (s + e) 4) 1 never (λ j. one (last k (eqb-true (s + e) 4 j))) (λ j. out (ltb-false s 2 h) (shut (eqb-false s 2 i) (eqb-false (s + e) 4 j)))))
-
--- The side of an end.
-abbrev pub sideOf : End → ℕ
-sideOf lo = 0
-sideOf hi = 1
 
 side-small : (e : End) → sideOf e ≤ 1
 side-small lo = omega arith
@@ -168,7 +165,7 @@ module _ (S : List ℕ) (j : ℕ) where
 
 -- ---- two parts
 
-pos : (n : ℕ) → (n ≡ 0 → ⊥) → 0 < n
+pub pos : (n : ℕ) → (n ≡ 0 → ⊥) → 0 < n
 pos zero h = absurd (h refl)
 pos (suc n) h = omega arith
 
@@ -304,42 +301,25 @@ module _ (S : List ℕ) (a b : Face) {x y : Weight} (A : Weighs S a x) (B : Weig
 -- ---- at a place
 
 module _ {f : List ℕ} {i d : ℕ} (q : Asks f i d) where
-  pub asks-inside : i < length f
-  asks-inside = kind-inside f i (q .face) (q .rest) (q .bytes)
-
-  parts : 4 ≤ getD f i 0 → PartsAt f i (q .face) (q .rest)
-  parts h = parts-at f i (q .face) (q .rest) (q .bytes) h
-
-  parts-low : (h : 4 ≤ getD f i 0) → (boundFace (parts h .left) ≤ d) × (boundFace (parts h .right) ≤ d)
+  parts-low : (h : 4 ≤ getD f i 0) → (boundFace (parts (q .stands) h .left) ≤ d) × (boundFace (parts (q .stands) h .right) ≤ d)
   unfolding boundFace
   parts-low h =
-      let p = parts h in
+      let p = parts (q .stands) h in
       let e = parts-same boundFace p refl refl in
       (omega (arith, e, q .low), omega (arith, e, q .low))
 
   pub first-asks : 4 ≤ getD f i 0 → Asks f (i + 1) d
-  first-asks h = record { face = parts h .left; rest = encodeFace (parts h .right) ++ q .rest; bytes = parts h .first; low = parts-low h .0 }
+  first-asks h = record { stands = first-stands (q .stands) h; low = parts-low h .0 }
 
-  -- Behind the first part, which was weighed.
-  pub second-behind : {S : List ℕ} {r : Weight} → 4 ≤ getD f i 0 → Weighed f (i + 1) S r → i < r .at
-  second-behind h w = omega (arith, w .ends (parts h .left) (encodeFace (parts h .right) ++ q .rest) (parts h .first))
-
-  pub second-asks : {S : List ℕ} {r : Weight} → 4 ≤ getD f i 0 → Weighed f (i + 1) S r → Asks f (r .at) d
-  second-asks {r = r} h w =
-      let e = w .ends (parts h .left) (encodeFace (parts h .right) ++ q .rest) (parts h .first) in
-      record { face = parts h .right; rest = q .rest; bytes = ap (λ n. drop n f) e ∙ parts h .second; low = parts-low h .1 }
+  pub second-asks : {j : ℕ} → 4 ≤ getD f i 0 → Ends f (i + 1) j → Asks f j d
+  second-asks h e = record { stands = second-stands (q .stands) h e; low = parts-low h .1 }
 
 -- A constant, with its kind byte.
 pub leaf-weighed : (f : List ℕ) (i : ℕ) (S : List ℕ) → getD f i 0 < 2 → Weighed f i S (constant (getD f i 0) (i + 1))
 leaf-weighed f i S h = record {
-  ends = λ t rest e. omega (arith, leaf-at f i t rest e h .ends);
+  ends = leaf-ends f i h;
   weighs = λ t rest e. let s = leaf-at f i t rest e h in constant-weighs S (i + 1) (getD f i 0) t (s .empty) (s .full);
 }
-
--- A literal's dimension and side, by its number.
-pub number-parts : (e : End) (n m k : ℕ) → k < 2 → numbered e n ≡ 2 * m + k → (n ≡ m) × (sideOf e ≡ k)
-number-parts lo n m k h p = (omega (arith, h, p), omega (arith, h, p))
-number-parts hi n m k h p = (omega (arith, h, p), omega (arith, h, p))
 
 pub getD-in : (S : List ℕ) (n a b : ℕ) → n < length S → getD S n a ≡ getD S n b
 getD-in [] n a b h = absurd (omega (arith, h))
@@ -347,26 +327,16 @@ getD-in (s ∷ S) zero a b h = refl
 getD-in (s ∷ S) (suc n) a b h = getD-in S n a b (omega (arith, h))
 
 module _ (f : List ℕ) (i : ℕ) (h : 2 ≤ getD f i 0) (k : getD f i 0 < 4) where
-  -- Its dimension and side, of whichever face stands there.
-  pub literal-is : (t : Face) (rest : List ℕ) → drop i f ≡ encodeFace t ++ rest → (e : End) × (t ≡ at e (dimAt f (i + 1))) × (sideOf e ≡ getD f i 0 - 2)
-  literal-is t rest p =
-      let s = literal-at f i t rest p h k in
-      let q = number-parts (s .side) (s .dimension) (dimAt f (i + 1)) (getD f i 0 - 2) (omega (arith, h, k)) (s .number) in
-      (s .side, s .face ∙ ap (at (s .side)) (q .0), q .1)
-
   pub literal-dimension : {d : ℕ} → Asks f i d → dimAt f (i + 1) < d
   unfolding boundFace
-  literal-dimension q = let s = literal-is (q .face) (q .rest) (q .bytes) in omega (arith, q .low, ap boundFace (s .1))
-
-  pub literal-fits : {d : ℕ} → Asks f i d → i + 1 + dimWidth ≤ length f
-  literal-fits q = literal-at f i (q .face) (q .rest) (q .bytes) h k .fits
+  literal-dimension q = let s = literal-is f i h k (q .stands .face) (q .stands .rest) (q .stands .bytes) in omega (arith, q .low, ap boundFace (s .1))
 
   pub literal-weighed : (S : List ℕ) (w n e : ℕ) (b : Bool) (j : ℕ) → Asks f i (length S) → w ≡ cost (getD S n 0) e → n ≡ dimAt f (i + 1) → e ≡ getD f i 0 - 2 → j ≡ i + 1 + dimWidth
       → Weighed f i S (record { weight = w; dim = n; side = e; forced = b; at = j })
   literal-weighed S w n e b j q pw pn pe pj = record {
-    ends = λ t rest p. omega (arith, pj, literal-at f i t rest p h k .ends);
+    ends = λ t rest p. pj ∙ literal-ends f i h k t rest p;
     weighs = λ t rest p.
-        let s = literal-is t rest p in
+        let s = literal-is f i h k t rest p in
         let low : n < length S = omega (arith, pn, literal-dimension q) in
         let z = literal-weighs S (s .0) n j low b in
         let u : w ≡ cost (getD S n 5) (sideOf (s .0)) = pw ∙ ap₂ cost (getD-in S n 0 5 low) (pe ∙ sym (s .2)) in
@@ -384,27 +354,18 @@ module _ (f : List ℕ) (i : ℕ) (S : List ℕ) {x y : Weight} (h : 4 ≤ getD 
     abbrev p : PartsAt f i t rest
     p = parts-at f i t rest e h
 
-    middle : x .at ≡ i + 1 + length (encodeFace (p .left))
-    middle = A .ends (p .left) (encodeFace (p .right) ++ rest) (p .first)
-
-    second : drop (x .at) f ≡ encodeFace (p .right) ++ rest
-    second = ap (λ n. drop n f) middle ∙ p .second
-
     left-weighs : Weighs S (p .left) x
     left-weighs = A .weighs (p .left) (encodeFace (p .right) ++ rest) (p .first)
 
     right-weighs : Weighs S (p .right) y
-    right-weighs = B .weighs (p .right) rest second
-
-    both-end : y .at ≡ i + length (encodeFace t)
-    both-end = omega (arith, middle, B .ends (p .right) rest second, p .ends)
+    right-weighs = B .weighs (p .right) rest (second f i h (A .ends) t rest e)
 
   pub parts-small : {d : ℕ} → Asks f i d → (x .weight ≤ never) × (y .weight ≤ never)
-  parts-small q = (left-weighs (q .face) (q .rest) (q .bytes) .small, right-weighs (q .face) (q .rest) (q .bytes) .small)
+  parts-small q = let s = q .stands in (left-weighs (s .face) (s .rest) (s .bytes) .small, right-weighs (s .face) (s .rest) (s .bytes) .small)
 
   pub conjoined-weighed : {marks : List ℕ} → getD f i 0 ≡ 4 → Marks f marks → Weighed f i S (conjoined (getD marks i 0) x y)
   conjoined-weighed {marks} k m = record {
-    ends = both-end;
+    ends = parts-end f i h (A .ends) (B .ends);
     weighs = λ t rest e.
         let c = p t rest e .conjoined k in
         subst (λ u. Weighs S u (conjoined (getD marks i 0) x y)) (sym c)
@@ -413,7 +374,7 @@ module _ (f : List ℕ) (i : ℕ) (S : List ℕ) {x y : Weight} (h : 4 ≤ getD 
 
   pub lighter-weighed : (getD f i 0 ≡ 4 → ⊥) → Weighed f i S (lighter x y)
   lighter-weighed k = record {
-    ends = λ t rest e. lighter-at x y ∙ both-end t rest e;
+    ends = λ t rest e. lighter-at x y ∙ parts-end f i h (A .ends) (B .ends) t rest e;
     weighs = λ t rest e.
         subst (λ u. Weighs S u (lighter x y)) (sym (p t rest e .disjoined k)) (lighter-weighs S (p t rest e .left) (p t rest e .right) (left-weighs t rest e) (right-weighs t rest e));
   }

@@ -1,3 +1,4 @@
+pub mod Places
 pub mod States
 pub mod Weighing
 pub mod Marking

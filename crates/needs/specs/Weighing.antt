@@ -9,15 +9,14 @@ use Rattle.formula.specs.Formula.{Face, holds}
 use Rattle.formula.specs.Bytes.{encodeFace, boundFace}
 use Rattle.formula.specs.Answers.{pick}
 use Rattle.assignments.specs.Assignments.{assigned}
+use Rattle.needs.specs.Places.{Stands, Ends}
 use Rattle.needs.specs.States.{Open, Within, settled, occurs, hits}
 use Rattle.needs.specs.declared.Weight.{Weight}
 
 -- A face with dimensions below d stands in the bytes at a place.
 pub record Asks (f : List ℕ) (i d : ℕ) : Type 0 where
-  pub face : Face
-  pub rest : List ℕ
-  pub bytes : drop i f ≡ encodeFace face ++ rest
-  pub low : boundFace face ≤ d
+  pub stands : Stands f i
+  pub low : boundFace (stands .face) ≤ d
 
 -- More than any face needs.
 abbrev pub never : ℕ
@@ -33,7 +32,7 @@ pub record Weighs (S : List ℕ) (t : Face) (r : Weight) : Type 0 where
 
 -- The face at a place was weighed, and the place is behind it.
 pub record Weighed (f : List ℕ) (i : ℕ) (S : List ℕ) (r : Weight) : Type 0 where
-  pub ends : (t : Face) (rest : List ℕ) → drop i f ≡ encodeFace t ++ rest → r .at ≡ i + length (encodeFace t)
+  pub ends : Ends f i (r .at)
   pub weighs : (t : Face) (rest : List ℕ) → drop i f ≡ encodeFace t ++ rest → Weighs S t r
 
 -- What a literal at a side needs by the state's byte of its dimension.

@@ -5,7 +5,8 @@ ghost use mathlib.Core.Bool.{_||_};
 ghost use Prim.Native.Nat.{_≤_, _<_, _+_};
 ghost use lib.ListN.{length, getD, drop};
 ghost use Rattle.formula.specs.Bytes.{dimWidth};
-ghost use Rattle.needs.specs.Marking.{Marks, Stands, Meets, Shares, Marked};
+ghost use Rattle.needs.specs.Places.{Stands};
+ghost use Rattle.needs.specs.Marking.{Marks, Meets, Shares, Marked};
 
 // Whether the literal at a place is that of dimension n at a side.
 fn is_literal(f: &[u8], at: usize, n: usize, side: usize) -> Seen

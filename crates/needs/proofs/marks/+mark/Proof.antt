@@ -10,7 +10,8 @@ use Rattle.needs.proofs.marks.+mark.{statement}
 use Rattle.needs.proofs.marks.+mark.Tie.{close}
 use native.Mathlib.Omega.{arith}
 use lib.ListN.{length}
-use Rattle.needs.proofs.MarkLaws.{stands-inside, literal-inside, leaf-ends, literal-ends, first-stands, second-behind, second-stands, parts-marked, node-marked}
+use Rattle.needs.proofs.PlaceLaws.{stands-inside, literal-inside, leaf-ends, literal-ends, first-stands, second-behind, second-stands}
+use Rattle.needs.proofs.MarkLaws.{parts-marked, node-marked}
 use mathlib.Core.Path.{refl, _∙_}
 
 abbrev μ-mark : Measures 2 mark-kinds.ps ℕ

@@ -13,7 +13,8 @@ use native.Mathlib.Omega.{arith}
 use mathlib.Core.Path.{sym, subst}
 use lib.ListN.{length}
 use Rattle.needs.specs.Marking.{Meets}
-use Rattle.needs.proofs.MarkLaws.{stands-inside, leaf-meets, first-stands, second-behind, second-stands, parts-meet}
+use Rattle.needs.proofs.PlaceLaws.{stands-inside, first-stands, second-behind, second-stands}
+use Rattle.needs.proofs.MarkLaws.{leaf-meets, parts-meet}
 
 abbrev μ-meets : Measures 1 meets-kinds.ps ℕ
 μ-meets κs a = length (a .0 .now) - a .1 .0

@@ -13,7 +13,8 @@ use native.Mathlib.Omega.{arith}
 use mathlib.Core.Path.{sym, subst}
 use lib.ListN.{length}
 use Rattle.needs.specs.Marking.{Shares}
-use Rattle.needs.proofs.MarkLaws.{stands-inside, leaf-shares, first-stands, second-behind, second-stands, parts-share}
+use Rattle.needs.proofs.PlaceLaws.{stands-inside, first-stands, second-behind, second-stands}
+use Rattle.needs.proofs.MarkLaws.{leaf-shares, parts-share}
 
 abbrev μ-shares : Measures 1 shares-kinds.ps ℕ
 μ-shares κs a = length (a .0 .now) - a .1 .0

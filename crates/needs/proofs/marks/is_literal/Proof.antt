@@ -2,7 +2,8 @@ use borrow.Author.Needs.{needs}
 use Rattle.needs.proofs.marks.is_literal.Statement.{statement}
 use Rattle.needs.proofs.marks.is_literal.Tie as tie
 use native.Mathlib.Omega.{arith}
-use Rattle.needs.proofs.MarkLaws.{stands-inside, literal-inside, literal-meets}
+use Rattle.needs.proofs.PlaceLaws.{stands-inside, literal-inside}
+use Rattle.needs.proofs.MarkLaws.{literal-meets}
 use Prim.Native.Nat.{_+_}
 use mathlib.Core.Path.{sym, _∙_}
 use mathlib.Core.Bool.{false}

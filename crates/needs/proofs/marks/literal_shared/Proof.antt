@@ -2,7 +2,8 @@ use borrow.Author.Needs.{needs}
 use Rattle.needs.proofs.marks.literal_shared.Statement.{statement}
 use Rattle.needs.proofs.marks.literal_shared.Tie as tie
 use native.Mathlib.Omega.{arith}
-use Rattle.needs.proofs.MarkLaws.{stands-inside, literal-inside, literal-shares}
+use Rattle.needs.proofs.PlaceLaws.{stands-inside, literal-inside}
+use Rattle.needs.proofs.MarkLaws.{literal-shares}
 
 add-field : tie.Need-add-field
 add-field c = omega (arith, stands-inside (c .before .pre .0 .0))

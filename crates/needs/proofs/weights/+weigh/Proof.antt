@@ -15,7 +15,8 @@ use native.Mathlib.Omega.{arith}
 use mathlib.Core.Path.{sym, subst}
 use lib.ListN.{length}
 use Rattle.needs.specs.Weighing.{Weighed}
-use Rattle.needs.proofs.WeighLaws.{asks-inside, leaf-weighed, first-asks, second-behind, second-asks, parts-small, conjoined-weighed, lighter-weighed}
+use Rattle.needs.proofs.PlaceLaws.{stands-inside, second-behind}
+use Rattle.needs.proofs.WeighLaws.{leaf-weighed, first-asks, second-asks, parts-small, conjoined-weighed, lighter-weighed}
 
 abbrev μ-weigh : Measures 3 weigh-kinds.ps ℕ
 μ-weigh κs a = length (a .0 .now) - a .1 .0
@@ -31,10 +32,10 @@ abbrev weigh-claims : ℕ → weigh-lts.Claims
 weigh-claims t = (constant-reads.Asked, constant-reads.Learnt, literal-reads.Asked, literal-reads.Learnt, weigh-below t, weigh.Post, conjoined-reads.Asked, conjoined-reads.Learnt, lighter-reads.Asked, lighter-reads.Learnt)
 
 weigh-shared-slice-read-kind : (t : ℕ) → weigh-lts.Need-shared-slice-read-kind (weigh-claims t) (weigh-at t) weigh.Post
-weigh-shared-slice-read-kind t c = asks-inside (c .before .before .before .before .pre .1 .0)
+weigh-shared-slice-read-kind t c = stands-inside (c .before .before .before .before .pre .1 .0 .stands)
 
 weigh-add-next : (t : ℕ) → weigh-lts.Need-add-next (weigh-claims t) (weigh-at t) weigh.Post
-weigh-add-next t c = omega (arith, asks-inside (c .before .before .before .before .pre .1 .0))
+weigh-add-next t c = omega (arith, stands-inside (c .before .before .before .before .pre .1 .0 .stands))
 
 weigh-constant-requires : (t : ℕ) → weigh-lts.Need-constant-requires (weigh-claims t) (weigh-at t) weigh.Post
 weigh-constant-requires t c κs = search needs
@@ -49,13 +50,13 @@ weigh-returns-2 : (t : ℕ) → weigh-lts.Need-returns-2 (weigh-claims t) (weigh
 weigh-returns-2 t c = c .literal .ensures
 
 weigh-weigh-requires : (t : ℕ) → weigh-lts.Need-weigh-requires (weigh-claims t) (weigh-at t) weigh.Post
-weigh-weigh-requires t c κs = (omega (arith, c .before .before .before .before .before .before .pre .0, asks-inside (c .before .before .before .before .before .before .pre .1 .0)), (first-asks (c .before .before .before .before .before .before .pre .1 .0) (c .if2 .left), c .before .before .before .before .before .before .pre .1 .1))
+weigh-weigh-requires t c κs = (omega (arith, c .before .before .before .before .before .before .pre .0, stands-inside (c .before .before .before .before .before .before .pre .1 .0 .stands)), (first-asks (c .before .before .before .before .before .before .pre .1 .0) (c .if2 .left), c .before .before .before .before .before .before .pre .1 .1))
 
 weigh-weigh-requires-2 : (t : ℕ) → weigh-lts.Need-weigh-requires-2 (weigh-claims t) (weigh-at t) weigh.Post
-weigh-weigh-requires-2 t c κs = (omega (arith, c .before .before .before .before .before .before .before .pre .0, asks-inside (c .before .before .before .before .before .before .before .pre .1 .0), second-behind (c .before .before .before .before .before .before .before .pre .1 .0) (c .before .if2 .left) (c .weigh .ensures)), (second-asks (c .before .before .before .before .before .before .before .pre .1 .0) (c .before .if2 .left) (c .weigh .ensures), c .before .before .before .before .before .before .before .pre .1 .1))
+weigh-weigh-requires-2 t c κs = (omega (arith, c .before .before .before .before .before .before .before .pre .0, stands-inside (c .before .before .before .before .before .before .before .pre .1 .0 .stands), second-behind (c .before .before .before .before .before .before .before .pre .1 .0 .stands) (c .before .if2 .left) (c .weigh .ensures .ends)), (second-asks (c .before .before .before .before .before .before .before .pre .1 .0) (c .before .if2 .left) (c .weigh .ensures .ends), c .before .before .before .before .before .before .before .pre .1 .1))
 
 weigh-shared-slice-read-conjoined : (t : ℕ) → weigh-lts.Need-shared-slice-read-conjoined (weigh-claims t) (weigh-at t) weigh.Post
-weigh-shared-slice-read-conjoined t c = omega (arith, asks-inside (c .before .before .before .before .before .before .before .before .before .before .pre .1 .0), c .before .before .before .before .before .before .before .before .before .before .pre .1 .1 .1)
+weigh-shared-slice-read-conjoined t c = omega (arith, stands-inside (c .before .before .before .before .before .before .before .before .before .before .pre .1 .0 .stands), c .before .before .before .before .before .before .before .before .before .before .pre .1 .1 .1)
 
 weigh-conjoined-requires : (t : ℕ) → weigh-lts.Need-conjoined-requires (weigh-claims t) (weigh-at t) weigh.Post
 weigh-conjoined-requires t c κs = parts-small (c .before .before .before .before .before .before .before .before .before .before .args .f .now) (c .before .before .before .before .before .before .before .before .before .before .args .at) (c .before .before .before .before .before .before .before .before .before .before .args .state .now) (c .before .before .before .before .if2 .left) (c .before .before .before .weigh .ensures) (c .before .before .weigh2 .ensures) (c .before .before .before .before .before .before .before .before .before .before .pre .1 .0)

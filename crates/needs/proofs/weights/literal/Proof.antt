@@ -2,17 +2,18 @@ use borrow.Author.Needs.{needs}
 use Rattle.needs.proofs.weights.literal.Statement.{statement}
 use Rattle.needs.proofs.weights.literal.Tie as tie
 use native.Mathlib.Omega.{arith}
-use Rattle.needs.proofs.WeighLaws.{asks-inside, literal-dimension, literal-fits, literal-weighed}
+use Rattle.needs.proofs.PlaceLaws.{stands-inside, literal-inside}
+use Rattle.needs.proofs.WeighLaws.{literal-dimension, literal-weighed}
 use mathlib.Core.Path.{refl}
 
 add-field : tie.Need-add-field
-add-field c = omega (arith, asks-inside (c .before .before .pre .0))
+add-field c = omega (arith, stands-inside (c .before .before .pre .0 .stands))
 
 dim-at-requires : tie.Need-dim-at-requires
-dim-at-requires c κs = literal-fits (c .before .before .args .f .now) (c .before .before .args .at) (c .before .before .pre .1 .0) (c .before .before .pre .1 .1) (c .before .before .pre .0)
+dim-at-requires c κs = literal-inside (c .before .before .pre .0 .stands) (c .before .before .pre .1 .0) (c .before .before .pre .1 .1)
 
 shared-slice-read-side : tie.Need-shared-slice-read-side
-shared-slice-read-side c = asks-inside (c .before .before .before .before .pre .0)
+shared-slice-read-side c = stands-inside (c .before .before .before .before .pre .0 .stands)
 
 cast-side : tie.Need-cast-side
 cast-side c = search needs
@@ -27,7 +28,7 @@ cost-requires : tie.Need-cost-requires
 cost-requires c κs = search needs
 
 add-t10 : tie.Need-add-t10
-add-t10 c = omega (arith, literal-fits (c .before .before .before .before .before .before .args .f .now) (c .before .before .before .before .before .before .args .at) (c .before .before .before .before .before .before .pre .1 .0) (c .before .before .before .before .before .before .pre .1 .1) (c .before .before .before .before .before .before .pre .0))
+add-t10 c = omega (arith, literal-inside (c .before .before .before .before .before .before .pre .0 .stands) (c .before .before .before .before .before .before .pre .1 .0) (c .before .before .before .before .before .before .pre .1 .1))
 
 returns : tie.Need-returns
 returns c = literal-weighed (c .before .before .before .before .before .before .args .f .now) (c .before .before .before .before .before .before .args .at) (c .before .before .before .before .before .before .pre .1 .0) (c .before .before .before .before .before .before .pre .1 .1) (c .before .before .before .before .before .before .args .state .now) _ _ _ _ _ (c .before .before .before .before .before .before .pre .0) (c .cost .ensures) (c .before .before .before .dim-at .ensures .0) refl refl
