@@ -13,7 +13,7 @@ use Rattle.formula.specs.declared.Sort.the-variants.{Faces}
 use Rattle.formula.specs.Formula.{Face, ff}
 use Rattle.formula.specs.Bytes.{encode, nodes, maxNodes}
 use Rattle.formula.specs.Answers.{pick}
-use Rattle.operations.proofs.ResultLaws.{len-short}
+use Rattle.formula.proofs.Nodes.{len-short}
 use Rattle.calculus.specs.Record.{maxLedger}
 use Rattle.refusals.specs.declared.Refusal.{Refusal}
 use Rattle.refusals.specs.declared.Refusal.the-variants.{ShortOutput, NotAccepted}

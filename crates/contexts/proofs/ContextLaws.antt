@@ -16,7 +16,7 @@ use Rattle.calculus.specs.Parse.{readFaces}
 use Rattle.calculus.proofs.Fields.{read-faces}
 use Rattle.calculus.proofs.Searching.{nodes-positive}
 use Rattle.steps.specs.Trees.{Is}
-use Rattle.steps.proofs.TreeLaws.{long}
+use Rattle.formula.proofs.Nodes.{len-short}
 use Rattle.contexts.specs.Contexts.{Are, facesIn, contextOf, Context}
 
 -- The bytes of a context are read as it.
@@ -31,7 +31,7 @@ context-as {n} {l} h = subst (λ (H : List Face). Are H n l) (sym (context-of h)
 faces-long : (G : List Face) → length (facesBytes G) ≤ 2 * nodesContext G
 unfolding facesBytes nodesContext
 faces-long [] = omega arith
-faces-long (f ∷ G) = omega (arith, length-append (encodeFace f) (facesBytes G), long Faces f, faces-long G)
+faces-long (f ∷ G) = omega (arith, length-append (encodeFace f) (facesBytes G), len-short Faces f, faces-long G)
 
 pub context-short : {G : List Face} {n : ℕ} {l : List ℕ} → Are G n l → length l ≤ 1022
 context-short {G} h = omega (arith, ap length (h .bytes), faces-long G, h .few)

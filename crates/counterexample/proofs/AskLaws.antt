@@ -21,7 +21,7 @@ use Rattle.formula.specs.declared.Sized.the-variants.{Fits, Refused as Refusing
 use Rattle.formula.specs.Answers.{pick, sizeOf, saidSized, operand}
 use Rattle.formula.proofs.Reading.{readAll-encode}
 use Rattle.formula.proofs.Operands.{Fitted, sized-fits, sized-refused, Opened, opened, opened-limits}
-use Rattle.forms.proofs.FormLaws.{form-short}
+use Rattle.formula.proofs.Nodes.{len-short}
 use Rattle.assignments.specs.Assignments.{Assigns, determined, Refutes, Least}
 use Rattle.assignments.proofs.Ordering.{determined-long}
 use Rattle.assignments.proofs.Entailing.{bytesOf, bytes-assigns, holds-bytes}
@@ -286,8 +286,8 @@ module _ (d : ℕ) (a b out : List ℕ) {r : Sized} {x : Size} (p : saidSized r 
         goal = goal-opened .bytes;
         low = sym (ap (λ (z : Size). z .bound) (A .size));
         high = sym (ap (λ (z : Size). z .bound) (G .size));
-        short = omega (arith, ap length (left-opened .bytes), form-short (A .tree), opened-limits Faces left-opened .0);
-        brief = omega (arith, ap length (goal-opened .bytes), form-short (G .tree), opened-limits Faces goal-opened .0);
+        short = omega (arith, ap length (left-opened .bytes), len-short Faces (A .tree), opened-limits Faces left-opened .0);
+        brief = omega (arith, ap length (goal-opened .bytes), len-short Faces (G .tree), opened-limits Faces goal-opened .0);
       }
 
       pub both-show : {v : Shown} {out′ : List ℕ} → Faced d a b out (questioned d out) v out′ → Shows d a b out v out′

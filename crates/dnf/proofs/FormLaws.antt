@@ -8,13 +8,15 @@ use lib.ListN.{length, take, drop}
 use borrow.Author.Tests.{le-leb, lt-leb}
 use Rattle.formula.specs.Formula.{Face}
 use Rattle.formula.specs.Bytes.{encodeFace, nodesFace, maxNodes}
+use Rattle.formula.specs.declared.Sort.the-variants.{Faces}
+use Rattle.formula.proofs.Nodes.{len-short}
 use Rattle.formula.specs.Answers.{pick}
 use Rattle.clauses.specs.Normal.{Handling, clauses}
 use Rattle.clauses.specs.Shape.{All, nothing, each}
 use Rattle.clauses.specs.declared.Clause.{Clause as Bits}
 use Rattle.clauses.proofs.Lengths.{clauses-few}
 use Rattle.forms.specs.Forms.{weightOf, formNodes, Wrote}
-use Rattle.forms.proofs.FormLaws.{form-nodes, form-short, wrote-none, wrote-as}
+use Rattle.forms.proofs.FormLaws.{form-nodes, wrote-none, wrote-as}
 use Rattle.dnf.specs.Finding.{ranked, manyIn, Asks, FindsOf, Finds}
 use Rattle.dnf.specs.Forming.{formOf, formBytes, shortForm, Printable, Shapes, Forms}
 use Rattle.dnf.proofs.FindLaws.{a-list, no-list}
@@ -37,7 +39,7 @@ shapes-asks s = record {
   face = s .face;
   rest = [];
   bytes = s .bytes ∙ sym (append-nil (encodeFace (s .face)));
-  short = omega (arith, ap length (s .bytes), form-short (s .face), s .nodes);
+  short = omega (arith, ap length (s .bytes), len-short Faces (s .face), s .nodes);
   fits = omega (arith, s .fits);
 }
 
@@ -86,7 +88,7 @@ module _ (H : Handling Bits) (numbers f : List ℕ) {l l′ : List Bits} {r : �
         inside = formed-inside h;
         many = s .many;
         fielded = s .fielded (take (manyIn r) l′) (formed-list (s .face) (s .bytes) h);
-        fits = omega (arith, form-short (formOf numbers (take (manyIn r) l′)), counted, k, s .writes);
+        fits = omega (arith, len-short Faces (formOf numbers (take (manyIn r) l′)), counted, k, s .writes);
       }
 
       pub formed-done : {o o′ : List ℕ} {n : ℕ} → manyIn r ≤ 256 → size ≤ maxNodes → Wrote o 0 (formBytes numbers (take (manyIn r) l′)) n o′ → Forms H numbers f o n o′

@@ -12,7 +12,7 @@ use Rattle.formula.specs.declared.Sort.{Sort}
 use Rattle.formula.specs.declared.Sort.the-variants.{Faces, Intervals}
 use Rattle.formula.specs.Bytes.{Tree, encode, nodes, maxNodes, readAll}
 use Rattle.formula.specs.Answers.{pick}
-use Rattle.operations.proofs.ResultLaws.{len-short}
+use Rattle.formula.proofs.Nodes.{len-short}
 use Rattle.refusals.specs.declared.Refusal.the-variants.{ShortOutput}
 use Rattle.calculus.specs.Judgement.{Step}
 use Rattle.calculus.specs.Rules.{AllBelow, pass, fail}

@@ -7,7 +7,7 @@ use mathlib.Core.Bool.{Bool, true, false}
 use mathlib.Core.List.{List, [], _∷_, _++_, append-assoc, append-nil, map, map-map, map-congr-left, flatMap}
 use lib.ListN.{length, set, drop, replicate, length-append, length-map, length-replicate}
 use lib.Seq.{sets, length-sets}
-use Rattle.formula.specs.Formula.{Face, ff, ft, lo, hi, at, fand, for}
+use Rattle.formula.specs.Formula.{Face, fand, for}
 use Rattle.formula.specs.Bytes.{encodeFace, nodesFace}
 use Rattle.clauses.specs.Normal.{Clause, literal, ands, conjunction, ors, disjunction}
 use Rattle.clauses.specs.Words.{bits, select, count}
@@ -139,18 +139,6 @@ form-bytes ks (c ∷ cs) h =
     let many : length (map (λ c. select ks (bits c)) cs) ≡ length (c ∷ cs) - 1 = length-map cs (λ c. select ks (bits c)) ∙ omega arith in
     disjunction-bytes (select ks (bits c)) (map (λ c. select ks (bits c)) cs)
     ∙ ap₂ (λ (n : ℕ) (r : List ℕ). replicate n 5 ++ r) many (flatMap-map (λ d. encodeFace (conjunction d)) (λ c. select ks (bits c)) (c ∷ cs))
-
--- ---- bytes against nodes
-
--- A literal has the most bytes for its one node.
-pub form-short : (g : Face) → length (encodeFace g) ≤ 2 * nodesFace g
-unfolding encodeFace nodesFace
-form-short ff = omega arith
-form-short ft = omega arith
-form-short (at lo n) = omega arith
-form-short (at hi n) = omega arith
-form-short (fand f g) = omega (arith, length-append (encodeFace f) (encodeFace g), form-short f, form-short g)
-form-short (for f g) = omega (arith, length-append (encodeFace f) (encodeFace g), form-short f, form-short g)
 
 -- ---- a loop that adds up weights
 

@@ -1,10 +1,11 @@
 -- What a kind byte says of the formulas that begin with it, and induction over the formulas of a sort by their kind bytes.
-use Prim.Native.Nat.{ℕ, zero, suc, _+_, _-_, max}
+use Prim.Native.Nat.{ℕ, zero, suc, _+_, _-_, _*_, _≤_, max}
 use native.Mathlib.Omega.{arith}
-use mathlib.Core.Path.{_≡_, refl, subst}
+use mathlib.Core.Path.{_≡_, refl, subst, ap}
 use mathlib.Core.Bool.{Bool, true, false}
 use mathlib.Core.List.{List, [], _∷_, _++_}
 use lib.Dec.{ltb}
+use lib.ListN.{length, length-append}
 use borrow.Author.Tests.{ltb-false}
 use Rattle.formula.specs.Formula.{lo, hi, Face, ff, ft, at, fand, for, Interval, i0, i1, dim, neg, meet, join}
 use Rattle.formula.specs.Bytes.{Tree, dimBytes, encode, encodeFace, encodeInterval, Node, leaf, lit, one, two, bad, faceNode, from16, intervalNode, nodeOf, nodes, nodesFace, nodesInterval, bound, boundFace, boundInterval}
@@ -130,3 +131,14 @@ interval-ind P h (join r s) = h .at-two 21 join r s refl (interval-ind P h r) (i
 pub tree-ind : (s : Sort) (P : Tree s → Type 0) → Steps s P → (t : Tree s) → P t
 tree-ind Faces P h t = face-ind P h t
 tree-ind Intervals P h t = interval-ind P h t
+
+-- A formula has at most two bytes a node.
+pub len-short : (s : Sort) (t : Tree s) → length (encode s t) ≤ 2 * nodes s t
+len-short s =
+    tree-ind s (λ t. length (encode s t) ≤ 2 * nodes s t)
+    (record {
+      at-leaf = λ b t e. let k = made-as s b (leaf t) e in omega (arith, ap length (k .bytes), k .count);
+      at-lit = λ b n g e. let k = made-as s b (lit g) e n in omega (arith, ap length (k .bytes), k .count);
+      at-one = λ b u x e h. let k = made-as s b (one u) e x in omega (arith, ap length (k .bytes), k .count);
+      at-two = λ b v x y e h i. let k = made-as s b (two v) e x y in omega (arith, ap length (k .bytes), length-append (encode s x) (encode s y), k .count);
+    })

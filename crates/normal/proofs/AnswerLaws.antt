@@ -28,7 +28,7 @@ use Rattle.refusals.specs.Refusals.{Result, refused, done, map, ofOne}
 use Rattle.text.specs.Answers.{Delivered, delivered, saidLength}
 use Rattle.text.specs.declared.Length.{Length}
 use Rattle.clauses.specs.Normal.{normal}
-use Rattle.forms.proofs.FormLaws.{form-short}
+use Rattle.formula.proofs.Nodes.{len-short}
 use Rattle.dnf.specs.Forming.{shortNormal, Whole, Normals}
 use Rattle.normal.specs.declared.Normalised.{Normalised}
 use Rattle.normal.specs.declared.Normalised.the-variants.{Form, Refused}
@@ -116,7 +116,7 @@ module _ {f l : List ℕ} {n : ℕ} {l′ : List ℕ} (p : Normals f l n l′) w
   told h t e = some-bytes (normal t) (λ q. h (sym (long t e) ∙ q))
 
   short : (n ≡ 0 → ⊥) → (t : Formula.Face) → f ≡ encodeFace t → n ≤ 1022
-  short h t e = let s = told h t e in omega (arith, long t e, ap length (s .bytes), form-short (s .face), s .few)
+  short h t e = let s = told h t e in omega (arith, long t e, ap length (s .bytes), len-short Faces (s .face), s .few)
 
   front : (h : n ≡ 0 → ⊥) → 1024 ≤ length l → (t : Formula.Face) (e : f ≡ encodeFace t) → take n l′ ≡ encodeFace (told h t e .face)
   front h k t e =

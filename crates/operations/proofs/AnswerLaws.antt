@@ -1,5 +1,5 @@
 -- The answers of the operations: from operands and results within the limits to sizes, outcomes and written bytes.
-use Prim.Native.Nat.{ℕ, _+_, _≤_, _<_, min}
+use Prim.Native.Nat.{ℕ, _≤_, _<_, min}
 use native.Mathlib.Omega.{arith}
 use native.Mathlib.Nat.{zero-add}
 use mathlib.Core.Path.{_≡_, refl, sym, ap, ap₂, _∙_, subst, subst₂}
@@ -17,7 +17,7 @@ use Rattle.refusals.specs.Refusals.{Result, refused, done, map, ofOne, ofTwo}
 use Rattle.formula.specs.Bytes.{Tree, encode, encodeFace, encodeInterval, nodesFace, nodesInterval, boundFace, boundInterval}
 use Rattle.formula.specs.Answers.{pick, sizeOf, keeps, saidSized, kept, operand}
 use Rattle.operations.specs.Results.{limited, foralled, boundaried, transformed, Answered, AnsweredBoth}
-use Rattle.passes.specs.Rewriting.{Token, tokens, tokensInterval, tokensOf, Whole, weighs, weightOf, zeroSize, plainSize, Small, spell, imageOf, Wrote, Rewritable, sides, endOf, Sided, plain, literal}
+use Rattle.passes.specs.Rewriting.{Token, tokens, tokensInterval, tokensOf, weighs, weightOf, zeroSize, plainSize, Small, spell, imageOf, Wrote, Rewritable, sides, endOf, Sided, plain, literal}
 use Rattle.operations.specs.Fitting.{resizedBy, hitSize, besideRefused, keptBytes, Fitting}
 use Rattle.formula.specs.declared.Sort.{Sort}
 use Rattle.formula.specs.declared.Sort.the-variants.{Faces, Intervals}
@@ -27,10 +27,12 @@ use Rattle.formula.specs.declared.Sized.{Sized}
 use Rattle.formula.specs.declared.Sized.the-variants.{Fits, Refused}
 use Rattle.passes.specs.declared.Rule.{Rule}
 use Rattle.passes.specs.declared.Rule.the-variants.{Up, Down, Ends}
+use Rattle.formula.proofs.Nodes.{len-short}
 use Rattle.formula.proofs.Operands.{keeps-limits, limits-keep, FittedBy, with-fits, with-refused, Fitted, sized-fits, sized-refused, Opened, opened}
 use Rattle.passes.proofs.PassLaws.{wrote-as}
+use Rattle.passes.proofs.TokenLaws.{opened-whole}
 use Rattle.passes.proofs.SideLaws.{sides-whole}
-use Rattle.operations.proofs.ResultLaws.{Pass, pass-size, pass-bytes, forall-pass, transform-pass, ruleOf, replacement, hitsOf, sideOf, boundary-weighs, boundary-sizes, boundary-smaller, len-short, bound-fields}
+use Rattle.operations.proofs.ResultLaws.{Pass, pass-size, pass-bytes, forall-pass, transform-pass, ruleOf, replacement, hitsOf, sideOf, boundary-weighs, boundary-sizes, boundary-smaller, bound-fields}
 
 module _ (s : Sort) where
   sized-limited : (t : Tree s) (z : Size) → sizeOf s t ≡ z → map (sizeOf s) (limited s t) ≡ kept z z
@@ -47,14 +49,6 @@ module _ (s : Sort) where
       go : (b : Bool) → keeps (sizeOf s t) ≡ b → pick b (done t) (refused LargeResult) ≡ done u → (t ≡ u) × (keeps (sizeOf s t) ≡ true)
       go true i e = (cc, i)
       go false i e = (cc, cc)
-
-  pub opened-whole : (l : List ℕ) (t : Tree s) → Opened s l t → Whole s l
-  opened-whole l t o =
-      let k = keeps-limits (sizeOf s t) (o .limits) in
-      record {
-        bytes = ap (encode s) (o .tree) ∙ sym (o .bytes);
-        short = omega (arith, len-short s t, ap length (o .bytes));
-      }
 
   -- the size of a result by the weight of its operand's tokens
   pub resized-kept : (rule : Rule) (hit : Size) (l : List ℕ) (t : Tree s) → operand s l ≡ done t → (z : Size) → z ≡ weighs (weightOf s rule hit) (tokensOf s l)

@@ -1,5 +1,5 @@
 -- The results of the operations by the tokens of their operands: their sizes and their bytes.
-use Prim.Native.Nat.{ℕ, pred, _+_, _*_, _≤_, compare, Ordering, Ordering·lt, Ordering·eq, Ordering·gt}
+use Prim.Native.Nat.{ℕ, pred, _≤_, compare, Ordering, Ordering·lt, Ordering·eq, Ordering·gt}
 use native.Mathlib.Omega.{arith}
 use mathlib.Core.Path.{_≡_, refl, sym, ap, ap₂, _∙_, subst}
 use mathlib.Core.List.{List, [], _∷_, _++_, append-nil}
@@ -258,17 +258,6 @@ boundary-smaller lo (meet r s) = let h = boundary-smaller lo r in let g = bounda
 boundary-smaller hi (meet r s) = let h = boundary-smaller hi r in let g = boundary-smaller hi s in record { nodes = omega arith; bound = omega arith }
 boundary-smaller lo (join r s) = let h = boundary-smaller lo r in let g = boundary-smaller lo s in record { nodes = omega arith; bound = omega arith }
 boundary-smaller hi (join r s) = let h = boundary-smaller hi r in let g = boundary-smaller hi s in record { nodes = omega arith; bound = omega arith }
-
--- A formula has at most two bytes a node.
-pub len-short : (s : Sort) (t : Tree s) → length (encode s t) ≤ 2 * nodes s t
-len-short s =
-    tree-ind s (λ t. length (encode s t) ≤ 2 * nodes s t)
-    (record {
-      at-leaf = λ b t e. let k = size-leaf s b t e in omega (arith, ap (λ (z : Size). z .len) k, ap (λ (z : Size). z .nodes) k);
-      at-lit = λ b n g e. let k = size-lit s b g e n in omega (arith, ap (λ (z : Size). z .len) k, ap (λ (z : Size). z .nodes) k);
-      at-one = λ b u x e h. let k = size-one s b u e x in omega (arith, ap (λ (z : Size). z .len) k, ap (λ (z : Size). z .nodes) k);
-      at-two = λ b v x y e h i. let k = size-two s b v e x y in omega (arith, ap (λ (z : Size). z .len) k, ap (λ (z : Size). z .nodes) k);
-    })
 
 -- Where a result's bound is within the limits, every dimension of it has a field.
 pub bound-fields : (s : Sort) (rule : Rule) (hit : Size) (ts : List Token) → (weighs (weightOf s rule hit) ts) .bound ≤ 255 → AllTokens (FieldedAt rule) ts

@@ -18,8 +18,13 @@ use Rattle.formula.specs.declared.Kind.the-variants.{Nullary, Literal, Unary, B
 use Rattle.formula.specs.declared.Place.{Place}
 use Rattle.formula.specs.declared.Advance.{Advance}
 use Rattle.formula.specs.declared.Advance.the-variants.{Leaf, Lit, One, Two}
-use Rattle.formula.proofs.Nodes.{made-as, EachNode, each-node, tree-ind}
+use Rattle.formula.proofs.Nodes.{made-as, EachNode, each-node, tree-ind, len-short}
+use Rattle.formula.proofs.Operands.{Opened, opened-limits}
 use Rattle.formula.proofs.Reading.{encode-pos}
+
+-- An operand that was kept is a formula within the limits.
+pub opened-whole : (s : Sort) (l : List ℕ) (t : Tree s) → Opened s l t → Whole s l
+opened-whole s l t o = record { bytes = ap (encode s) (o .tree) ∙ sym (o .bytes); short = omega (arith, len-short s t, opened-limits s o .0, ap length (o .bytes)) }
 
 -- the bytes of tokens, one list after another
 pub spell-append : (f : Token → List ℕ) (ts us : List Token) → spell f (ts ++ us) ≡ spell f ts ++ spell f us

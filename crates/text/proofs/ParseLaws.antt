@@ -12,7 +12,7 @@ use Rattle.formula.specs.declared.Kind.the-variants.{Nullary, Literal, Unary, B
 use Rattle.formula.specs.Bytes.{Tree, dimBytes, encode, Node, leaf, lit, one, two, bad, nodeOf, nodes, bound, maxBound}
 use Rattle.formula.specs.Answers.{kindBy, kindOf}
 use Rattle.formula.proofs.Nodes.{Made, made-as}
-use Rattle.operations.proofs.ResultLaws.{len-short}
+use Rattle.formula.proofs.Nodes.{len-short}
 use Rattle.records.proofs.NumberLaws.{sets-append}
 use Rattle.refusals.specs.declared.Refusal.{Refusal}
 use Rattle.refusals.specs.declared.Refusal.the-variants.{TooManyNodes, NotAccepted}

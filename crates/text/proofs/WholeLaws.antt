@@ -14,7 +14,7 @@ use Rattle.formula.specs.declared.Sort.the-variants.{Faces}
 use Rattle.formula.specs.Formula.{Face}
 use Rattle.formula.specs.Bytes.{Tree, encode, nodes, maxNodes, maxBound}
 use Rattle.formula.specs.Answers.{pick, sameBytes, Put}
-use Rattle.operations.proofs.ResultLaws.{len-short}
+use Rattle.formula.proofs.Nodes.{len-short}
 use Rattle.refusals.specs.declared.Refusal.{Refusal}
 use Rattle.refusals.specs.declared.Refusal.the-variants.{ShortOutput, NotAccepted}
 use Rattle.refusals.specs.Refusals.{Result, refused, done, map}

@@ -5,7 +5,8 @@ use mathlib.Core.Path.{sym, ap, _∙_}
 use Rattle.formula.specs.Answers.{operand}
 use Rattle.operations.specs.Fitting.{resizedBy}
 use Rattle.formula.proofs.Operands.{sized-fits, sized-refused, opened}
-use Rattle.operations.proofs.AnswerLaws.{opened-whole, resized-kept}
+use Rattle.passes.proofs.TokenLaws.{opened-whole}
+use Rattle.operations.proofs.AnswerLaws.{resized-kept}
 
 operand-requires : tie.Need-operand-requires
 operand-requires c κs = search needs
