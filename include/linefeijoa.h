@@ -69,7 +69,10 @@ enum lf_refusal {
     LF_NOT_ACCEPTED = 11,
     /* the implication holds, so there is no counterexample;
      * take it as the answer: entails says yes */
-    LF_IMPLIED = 12
+    LF_IMPLIED = 12,
+    /* a dimension is above 32, or a node is more than 32 levels below the root, which the producer does not take;
+     * number the dimensions that are used from 0 on, and nest the formula less deeply or split it */
+    LF_BEYOND_PRODUCER = 13
 };
 
 /* Limits, and sizes that are always enough. */
@@ -78,6 +81,8 @@ enum lf_refusal {
 #define LF_MAX_NODES 511             /* of a formula; each kind byte is a node */
 #define LF_MAX_DIMENSION 254         /* of a formula; k too */
 #define LF_MAX_D 255                 /* how many dimensions there may be */
+#define LF_MAX_PRODUCER_DIMENSION 32 /* of a formula that the producer takes */
+#define LF_MAX_PRODUCER_DEPTH 32     /* of its nodes, the root being at depth 0 */
 #define LF_MAX_CLAUSES 256           /* of a list on the way to a normal form */
 #define LF_MAX_FORMULA_BYTES 1022    /* proved; the longest formulas have 767 */
 #define LF_MAX_TEXT_BYTES 527352     /* of a formula's text, proved; the longest have 263,928 */
@@ -183,6 +188,17 @@ int64_t lf_entails(uint8_t *ledger, size_t ledger_len, uint64_t d, const uint8_t
 int64_t lf_counterexample(uint64_t d, const uint8_t *a, size_t a_len, const uint8_t *b, size_t b_len, uint8_t *out,
                           size_t out_len);
 
+/* ---- The producer's limits: no ledger is asked for ----
+ *
+ * The published Rust's producer takes fewer formulas: no dimension is above LF_MAX_PRODUCER_DIMENSION, and no node is
+ * deeper than LF_MAX_PRODUCER_DEPTH. Only these two functions ask for that. */
+
+/* How many nodes the face f has, where the producer takes it. Refused by 2, 3, 4, 13. */
+int64_t lf_fence_face(const uint8_t *f, size_t f_len);
+
+/* How many nodes the interval r has, where the producer takes it. Refused by 2, 3, 4, 13. */
+int64_t lf_fence_interval(const uint8_t *r, size_t r_len);
+
 /* ---- Texts ---- */
 
 /* The face that a text is, in front of out: its length. Bytes 32 and 10 separate. Refused by 3, 4, 11, whichever is met
@@ -240,7 +256,7 @@ int64_t lf_facesteps(const uint8_t *input, size_t input_len, uint8_t *out, size_
 
 /* ---- Answers taken apart ---- */
 
-/* The refusal's number, 1 to 12, or 0 where the answer is none: any function's. */
+/* The refusal's number, 1 to 13, or 0 where the answer is none: any function's. */
 static inline int lf_refusal_of(int64_t answer) {
     return answer < 0 ? (int)((0 - (uint64_t)answer) & 15) : 0;
 }
@@ -273,6 +289,9 @@ static inline const char *lf_refusal_meaning(int refusal) {
         return "the text is not accepted";
     case LF_IMPLIED:
         return "the implication holds, so there is no counterexample";
+    case LF_BEYOND_PRODUCER:
+        return "a dimension is above 32, or a node is more than 32 levels below the root, "
+               "which the producer does not take";
     default:
         return "";
     }

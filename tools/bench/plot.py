@@ -21,7 +21,8 @@ PICTURE = ROOT / "docs/benchmark.svg"
 
 WIDTH, LEFT, RIGHT = 960, 372, 908  # the picture, and where its scale begins and ends
 TOP, ROW, HEAD, FOOT = 104, 10.5, 25, 30  # heights: above the first table, of a row, of a title, below the last row
-LOWEST, HIGHEST = -1.3, 7.3  # the scale, in powers of ten of a microsecond
+LOWEST, HIGHEST = -1.3, 7.3  # the scale, in powers of ten of a microsecond; it begins lower where a time does
+MARKS = {-3: "1 ns", -2: "10 ns", -1: "0.1 µs", 0: "1 µs", 1: "10 µs", 2: "100 µs", 3: "1 ms", 4: "10 ms", 5: "100 ms", 6: "1 s", 7: "10 s"}
 LABEL, TITLE = 82, 112  # the longest texts, in letters
 FASTER, SLOWER, INK, PALE = "#1f5fbf", "#c0392b", "#222222", "#d9dde2"
 
@@ -107,8 +108,13 @@ def said(us):
     return f"{us:.3g} µs"
 
 
-def across(us):
-    return LEFT + (RIGHT - LEFT) * (math.log10(us) - LOWEST) / (HIGHEST - LOWEST)
+def lowest(found):
+    """Where the scale begins for these rows."""
+    return min(LOWEST, math.log10(min(min(row.ours, row.rust) for row in found)) - 0.3)
+
+
+def across(us, low):
+    return LEFT + (RIGHT - LEFT) * (math.log10(us) - low) / (HIGHEST - low)
 
 
 def ratio_text(ratio):
@@ -119,8 +125,8 @@ def text(x, y, words, size, more=""):
     return f'<text x="{x:g}" y="{y:g}" font-size="{size}"{more}>{html.escape(words)}</text>'
 
 
-def bar(row, y):
-    ours, rust = across(row.ours), across(row.rust)
+def bar(row, y, low):
+    ours, rust = across(row.ours, low), across(row.rust, low)
     color = FASTER if row.ours <= row.rust else SLOWER
     tip = f"{row.label}: ours {said(row.ours)}, Rust {said(row.rust)}, ratio {ratio_text(row.ratio)}"
     return [
@@ -134,10 +140,14 @@ def bar(row, y):
     ]
 
 
-def scale(y, below):
+def marks(low):
+    """The marks of the scale, and where they stand."""
+    return [(across(10.0**power, low), mark) for power, mark in MARKS.items() if power > low]
+
+
+def scale(y, below, low):
     """The marks of the scale at its top or foot."""
-    marks = ["0.1 µs", "1 µs", "10 µs", "100 µs", "1 ms", "10 ms", "100 ms", "1 s", "10 s"]
-    return [text(across(10.0 ** (i - 1)), y + (11 if below else -4), mark, 9, ' text-anchor="middle"') for i, mark in enumerate(marks)]
+    return [text(x, y + (11 if below else -4), mark, 9, ' text-anchor="middle"') for x, mark in marks(low)]
 
 
 def legend():
@@ -162,6 +172,7 @@ def drawn(groups):
     height = TOP + sum(HEAD + ROW * len(found) for _, found in groups) + FOOT
     every = [row for _, found in groups for row in found]
     calls = [row for row in every if row.call]
+    low = lowest(every)
     lines = [
         f'<svg xmlns="http://www.w3.org/2000/svg" viewBox="0 0 {WIDTH} {height:g}" width="{WIDTH}" height="{height:g}" '
         f'font-family="DejaVu Sans, Arial, Helvetica, sans-serif" fill="{INK}">',
@@ -170,10 +181,9 @@ def drawn(groups):
         text(12, 50, f"{counted(calls, 'calls')}. With readers, normal forms and a growing ledger {counted(every, 'rows')}.", 10),
         *legend(),
     ]
-    for i in range(9):
-        x = across(10.0 ** (i - 1))
+    for x, _ in marks(low):
         lines.append(f'<line x1="{x:.1f}" y1="{TOP - 8}" x2="{x:.1f}" y2="{height - FOOT + 4:g}" stroke="{PALE}" stroke-width="1"/>')
-    lines += scale(TOP - 8, False) + scale(height - FOOT + 4, True)
+    lines += scale(TOP - 8, False, low) + scale(height - FOOT + 4, True, low)
     y = TOP
     for name, found in groups:
         middle = statistics.median(row.ratio for row in found)
@@ -184,7 +194,7 @@ def drawn(groups):
         ]
         y += HEAD
         for row in found:
-            lines += bar(row, y + ROW / 2 - 1)
+            lines += bar(row, y + ROW / 2 - 1, low)
             y += ROW
     return "\n".join([*lines, "</svg>"]) + "\n"
 

@@ -372,6 +372,13 @@ def normal(face):
     return printed(nested("for", "ff", [nested("fand", "ft", [[end, unary(n)] for n, end in c]) for c in clauses(face)]))
 
 
+def bound(f):
+    """One more than the largest dimension, 0 where there is none."""
+    if isinstance(f, str):
+        return 0
+    return number(f[1]) + 1 if f[0] in ("at0", "at1", "dim") else max(map(bound, f[1:]))
+
+
 def counterexample(d, a, b):
     """The bytes of the least counterexample, every assignment tried, or the refusal."""
 
@@ -382,16 +389,33 @@ def counterexample(d, a, b):
             return at[number(f[1])] == int(f[0][2])
         return (all if f[0] == "fand" else any)(holds(part, at) for part in f[1:])
 
-    def bound(f):
-        if isinstance(f, str):
-            return 0
-        return number(f[1]) + 1 if f[0] in ("at0", "at1") else max(map(bound, f[1:]))
-
     if max(bound(a), bound(b)) > d:
         return "refused 8"
     every = sorted(itertools.product(range(3), repeat=d), key=lambda at: (sum(v < 2 for v in at), at))
     found = [at for at in every if holds(a, at) and not holds(b, at)]
     return " ".join(map(str, found[0])) if found else "refused 12"
+
+
+def counted(content):
+    """Bytes as the document writes them where they repeat: 33 times 5 0, then 3 2."""
+    parts = [re.match(r"(?:(\d+) times )?([\d ]+)$", part).groups() for part in content.split(", then ")]
+    return [int(b) for times, repeated in parts for b in int(times or 1) * repeated.split()]
+
+
+def fence(sort, content, names, operands, kinds):
+    """Depth, and the node count or the refusal, of bytes to the fence of a sort."""
+
+    def depth(f):
+        return 0 if isinstance(f, str) or f[0] in ("at0", "at1", "dim") else 1 + max(map(depth, f[1:]))
+
+    reader = Reader(content, names, operands, kinds)
+    text = reader.formula()
+    nodes = [names[word][0] for word in re.findall(r"\w+", text) if word in names]
+    if reader.left or any((kind < 16) != (sort == "face") for kind in nodes):
+        return "none", "refused 2"
+    f = tree(text)
+    refused = [q for q, no in ((3, len(nodes) > 511), (4, bound(f) > 255), (13, max(bound(f) - 1, depth(f)) > 32)) if no]
+    return str(depth(f)), f"refused {refused[0]}" if refused else str(len(nodes))
 
 
 def examples(names, operands, kinds):
@@ -406,6 +430,8 @@ def examples(names, operands, kinds):
         same(f"normal form of {face}", form, normal(tree(face)))
     for d, a, b, content in rows("Counterexamples", 4):
         same(f"counterexample to {a} and {b} over {d}", content, counterexample(int(d), tree(a), tree(b)))
+    for sort, content, depth, answer in rows("The producer's limits", 4):
+        same(f"fence of the {sort} {content}", (depth, answer), fence(sort, counted(content), names, operands, kinds))
     worked = [row for row in rows("A ledger, byte by byte", 3)]
     content = [int(b) for row in worked for b in re.findall(r"\d+", row[1])]
     for at, written, _ in worked:

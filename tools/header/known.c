@@ -148,6 +148,21 @@ static void counterexamples(struct tally *t) {
     lent_free(&out), lent_free(&none);
 }
 
+/* The node counts of formulas that the producer takes. */
+static void fences(struct tally *t) {
+    static const uint8_t f[] = {LF_FOR, LF_AT0, 0, LF_FAND, LF_AT1, 1, LF_FT}, last[] = {LF_AT1, 32};
+    static const uint8_t r[] = {LF_MEET, LF_DIM, 0, LF_NEG, LF_DIM, 0}, i0[] = {LF_I0};
+    ASK(t, lf_fence_face(N(ff)), 1);
+    ASK(t, lf_fence_face(N(at0)), 1);
+    ASK(t, lf_fence_face(N(last)), 1);
+    ASK(t, lf_fence_face(N(f)), 5);
+    /* A part of it alone. */
+    ASK(t, lf_fence_face(f + 3, sizeof f - 3), 3);
+    ASK(t, lf_fence_interval(N(i0)), 1);
+    ASK(t, lf_fence_interval(N(r)), 4);
+    ASK(t, lf_fence_interval(r + 3, sizeof r - 3), 2);
+}
+
 /* The answer of a call with a result: its step and its length. */
 static int64_t made(int64_t step, size_t len) {
     return step + 4294967296 * (int64_t)len;
@@ -232,7 +247,7 @@ static void apart(struct tally *t) {
     int64_t call = made(7, 5), claim = 200 + 65536 * (int64_t)300 + 4294967296 * (int64_t)400;
     ASK(t, lf_refusal_of(call), 0);
     ASK(t, lf_refusal_of(0), 0);
-    for (int q = 1; q <= 12; q++)
+    for (int q = 1; q <= 13; q++)
         ASK(t, lf_refusal_of(-q), q);
     ASK(t, lf_refusal_of(-(10 + 16 * (int64_t)131071)), 10);
     ASK(t, lf_step_of(call), 7);
@@ -251,7 +266,7 @@ static void apart(struct tally *t) {
     ASK(t, strcmp(lf_refusal_meaning(LF_NOT_IMPLIED), "the implication does not hold"), 0);
     ASK(t, strcmp(lf_refusal_meaning(LF_IMPLIED), "the implication holds, so there is no counterexample"), 0);
     ASK(t, lf_refusal_meaning(0)[0], 0);
-    ASK(t, lf_refusal_meaning(13)[0], 0);
+    ASK(t, lf_refusal_meaning(14)[0], 0);
 }
 
 void known(struct tally *t) {
@@ -259,6 +274,7 @@ void known(struct tally *t) {
     program(t);
     entailments(t);
     counterexamples(t);
+    fences(t);
     results(t);
     formulas(t);
     apart(t);

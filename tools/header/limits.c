@@ -160,6 +160,62 @@ static void assignments(struct tally *t) {
     lent_free(&out);
 }
 
+/* A formula of n literals of one dimension under nodes over two: all but one of them left, all but one right, or half.
+ * Its length. */
+enum shape { LEFT, RIGHT, HALF, SHAPES };
+
+static size_t shaped(uint8_t *to, int shape, int node, int literal, int n, int dimension) {
+    int left = shape == LEFT ? n - 1 : shape == RIGHT ? 1 : n / 2;
+    size_t len;
+    if (n == 1) {
+        to[0] = (uint8_t)literal, to[1] = (uint8_t)dimension;
+        return 2;
+    }
+    to[0] = (uint8_t)node;
+    len = 1 + shaped(to + 1, shape, node, literal, left, dimension);
+    return len + shaped(to + len, shape, node, literal, n - left, dimension);
+}
+
+/* In each shape as many literals as the producer takes, and one more; with halves the limit is that of nodes. */
+static void fence(struct tally *t, const char *call, int64_t (*asked)(const uint8_t *, size_t), int node, int literal) {
+    uint8_t f[800];
+    for (int shape = LEFT; shape < SHAPES; shape++) {
+        int most = shape == HALF ? (LF_MAX_NODES + 1) / 2 : LF_MAX_PRODUCER_DEPTH + 1;
+        size_t n = shaped(f, shape, node, literal, most, LF_MAX_PRODUCER_DIMENSION);
+        answered(t, call, asked(f, n), 2 * most - 1);
+        /* The last literal alone, then all the others alone, have a dimension beyond the limit. */
+        f[n - 1] = LF_MAX_PRODUCER_DIMENSION + 1;
+        answered(t, call, asked(f, n), -LF_BEYOND_PRODUCER);
+        shaped(f, shape, node, literal, most, LF_MAX_PRODUCER_DIMENSION + 1);
+        f[n - 1] = 0;
+        answered(t, call, asked(f, n), -LF_BEYOND_PRODUCER);
+        n = shaped(f, shape, node, literal, most + 1, 0);
+        answered(t, call, asked(f, n), shape == HALF ? -LF_TOO_MANY_NODES : -LF_BEYOND_PRODUCER);
+        f[n - 1] = LF_MAX_DIMENSION + 1;
+        answered(t, call, asked(f, n), shape == HALF ? -LF_TOO_MANY_NODES : -LF_LARGE_DIMENSION);
+    }
+}
+
+static void fences(struct tally *t) {
+    static const struct {
+        size_t negs;
+        int answer;
+    } deep[] = {{LF_MAX_PRODUCER_DEPTH, LF_MAX_PRODUCER_DEPTH + 1},
+                {LF_MAX_PRODUCER_DEPTH + 1, -LF_BEYOND_PRODUCER},
+                {LF_MAX_NODES - 1, -LF_BEYOND_PRODUCER},
+                {LF_MAX_NODES, -LF_TOO_MANY_NODES}};
+    uint8_t r[LF_MAX_NODES + 1];
+    fence(t, "lf_fence_face(f, n)", lf_fence_face, LF_FAND, LF_AT0);
+    fence(t, "lf_fence_face(f, n)", lf_fence_face, LF_FOR, LF_AT1);
+    fence(t, "lf_fence_interval(f, n)", lf_fence_interval, LF_MEET, LF_DIM);
+    fence(t, "lf_fence_interval(f, n)", lf_fence_interval, LF_JOIN, LF_DIM);
+    for (size_t i = 0; i < sizeof deep / sizeof *deep; i++) {
+        memset(r, LF_NEG, deep[i].negs);
+        r[deep[i].negs] = LF_I1;
+        ASK(t, lf_fence_interval(r, deep[i].negs + 1), deep[i].answer);
+    }
+}
+
 void limits(struct tally *t) {
     ledgers(t);
     longer(t);
@@ -169,4 +225,5 @@ void limits(struct tally *t) {
     typed(t);
     deepest(t);
     assignments(t);
+    fences(t);
 }

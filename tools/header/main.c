@@ -59,7 +59,7 @@ int main(int n, char **words) {
     /* Each function, and the refusals that it was seen to answer. */
     for (int i = 0; i < ROWS && alone.names[i]; i++) {
         printf("%.*s", (int)strcspn(alone.names[i], "("), alone.names[i]);
-        for (int q = 1; q <= LF_IMPLIED; q++)
+        for (int q = 1; q <= LF_BEYOND_PRODUCER; q++)
             if (alone.refusals[i] >> q & 1)
                 printf(" %d", q);
         putchar('\n');

@@ -65,6 +65,8 @@ void nulls(struct tally *t) {
     ASK(t, lf_counterexample(1, N(ft), N(ft), NONE), -LF_SHORT_OUTPUT);
     ASK(t, lf_counterexample(0, N(ft), N(ft), NONE), -LF_IMPLIED);
     ASK(t, lf_counterexample(0, NONE, NONE, NONE), -LF_NOT_A_FORMULA);
+    ASK(t, lf_fence_face(NONE), -LF_NOT_A_FORMULA);
+    ASK(t, lf_fence_interval(NONE), -LF_NOT_A_FORMULA);
 
     /* Texts without their last byte, the zero. */
     ASK(t, lf_read_face(NONE, out.bytes, on), -LF_NOT_ACCEPTED);

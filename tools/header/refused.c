@@ -90,6 +90,22 @@ void refused(struct tally *t) {
     REFUSE(lf_counterexample(1, N(last), N(ft), OUT), LF_NOT_BELOW);
     REFUSE(lf_counterexample(1, N(both), N(at0), OUT), LF_IMPLIED);
 
+    /* The first no decides: what is refused by 3 and 4 here is beyond the producer too. */
+    REFUSE(lf_fence_face(N(bad)), LF_NOT_A_FORMULA);
+    REFUSE(lf_fence_face(wide, wn - 1), LF_NOT_A_FORMULA);
+    REFUSE(lf_fence_face(both + 1, sizeof both - 1), LF_NOT_A_FORMULA);
+    REFUSE(lf_fence_face(N(dim0)), LF_NOT_A_FORMULA);
+    REFUSE(lf_fence_face(wide, wn), LF_TOO_MANY_NODES);
+    REFUSE(lf_fence_face(N(high)), LF_LARGE_DIMENSION);
+    REFUSE(lf_fence_face(N(last)), LF_BEYOND_PRODUCER);
+    REFUSE(lf_fence_interval(two + 1, sizeof two - 1), LF_NOT_A_FORMULA);
+    REFUSE(lf_fence_interval(N(at0)), LF_NOT_A_FORMULA);
+    REFUSE(lf_fence_interval(wide_dim, dn - 1), LF_NOT_A_FORMULA);
+    REFUSE(lf_fence_interval(wide_dim, dn), LF_TOO_MANY_NODES);
+    REFUSE(lf_fence_interval(N(high_dim)), LF_LARGE_DIMENSION);
+    REFUSE(lf_fence_interval(N(last_dim)), LF_BEYOND_PRODUCER);
+    REFUSE(lf_fence_interval(whole_dim, fulln), LF_BEYOND_PRODUCER);
+
     /* 8 leaves steps, and outputs as they were: on a ledger of their own. */
     ASK(t, lf_face(steps.bytes, steps.len, 0, N(at0)), -LF_NOT_BELOW);
     ASK(t, lf_interval(steps.bytes, steps.len, 0, N(dim0)), -LF_NOT_BELOW);

@@ -19,9 +19,9 @@
 //! # Ok::<(), Refusal>(())
 //! ```
 pub use crate::raw::{
-    boundary, counterexample, endpoint, entails, face, facesteps, forall, interval, kind, normal, operands, read_claim,
-    read_face, read_interval, reference, repeats, rule_name, shift_face, shift_interval, step_desk, substitute_face,
-    substitute_interval, well_formed, write_face, write_interval, write_step,
+    boundary, counterexample, endpoint, entails, face, facesteps, fence_face, fence_interval, forall, interval, kind,
+    normal, operands, read_claim, read_face, read_interval, reference, repeats, rule_name, shift_face, shift_interval,
+    step_desk, substitute_face, substitute_interval, well_formed, write_face, write_interval, write_step,
 };
 use crate::{Refusal, Step};
 use std::ops::Range;
@@ -38,7 +38,7 @@ pub fn refusal_of(answer: i64) -> Option<Refusal> {
     if answer >= 0 {
         return None;
     }
-    // 1 to 12 in the lowest four bits; for 10 the step above them, which is 0 else.
+    // 1 to 13 in the lowest four bits; for 10 the step above them, which is 0 else.
     let bits = answer.unsigned_abs();
     let (number, step) = (bits & 15, bits >> 4);
     let known = if step > LOW || step > 0 && number != 10 {
@@ -54,7 +54,8 @@ fn accepted(answer: i64) -> Result<u64, Refusal> {
     refusal_of(answer).map_or(Ok(answer as u64), Err)
 }
 
-/// Of [`well_formed`] and [`step_desk`]: how many steps there are.
+/// Of [`well_formed`] and [`step_desk`]: how many steps there are; of [`fence_face`] and [`fence_interval`]: how many
+/// nodes.
 pub fn count_of(answer: i64) -> Result<u32, Refusal> {
     accepted(answer).map(|n| n as u32)
 }

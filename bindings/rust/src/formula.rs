@@ -82,6 +82,22 @@ impl Face {
     pub fn normal(&self) -> Result<Self, Refusal> {
         grown::grown(MAX_FORMULA_BYTES, |out| bytes::normal(&self.0, out)).map(Self)
     }
+
+    /// How many nodes the face has, where the published Rust's producer takes it: no dimension is above 32, and no node
+    /// is more than 32 levels below the root. Nothing else here asks for that. Refused by 13.
+    ///
+    /// ```
+    /// use linefeijoa::{Face, Refusal};
+    ///
+    /// let face: Face = "(for (at0 z) (fand (at1 z) (at0 (s z))))".parse()?;
+    /// assert_eq!(face.fence(), Ok(5));
+    /// assert_eq!(Face::at0(32)?.fence(), Ok(1));
+    /// assert_eq!(Face::at0(33)?.fence(), Err(Refusal::BeyondProducer));
+    /// # Ok::<(), Refusal>(())
+    /// ```
+    pub fn fence(&self) -> Result<usize, Refusal> {
+        bytes::count_of(bytes::fence_face(&self.0)).map(|nodes| nodes as usize)
+    }
 }
 
 impl Interval {
@@ -113,6 +129,20 @@ impl Interval {
     /// One where one of the two is, zero where both are. Refused by 3.
     pub fn join(&self, other: &Self) -> Result<Self, Refusal> {
         Self::from_bytes([&[21][..], &self.0, &other.0].concat())
+    }
+
+    /// How many nodes the interval has, where the producer takes it, as of a [face](Face::fence). Refused by 13.
+    ///
+    /// ```
+    /// use linefeijoa::{Interval, Refusal};
+    ///
+    /// let deep = Interval::from_bytes([vec![19; 32], vec![18, 0]].concat())?;
+    /// assert_eq!(deep.fence(), Ok(33));
+    /// assert_eq!(deep.neg()?.fence(), Err(Refusal::BeyondProducer));
+    /// # Ok::<(), Refusal>(())
+    /// ```
+    pub fn fence(&self) -> Result<usize, Refusal> {
+        bytes::count_of(bytes::fence_interval(&self.0)).map(|nodes| nodes as usize)
     }
 }
 

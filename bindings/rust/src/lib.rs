@@ -21,6 +21,8 @@
 //! - [`Face`] and [`Interval`] own the bytes of one formula within document 01's limits; they are read and printed by the
 //!   proved reader and writer. Calls also take bytes as they come ([`AsFace`], [`AsInterval`]).
 //! - [`Claim::counterexample`] answers an [`Assignment`] at which an implication does not hold.
+//! - [`Face::fence`] and [`Interval::fence`] say whether the published Rust's producer, whose limits are narrower, takes a
+//!   formula.
 //! - [`Record`] is a step looked at: [`Rule`], references, judgement. [`Ledger::steps`] goes over all of them.
 //! - [`facesteps`] is the program of that name, from an input to what it prints.
 //! - [`bytes`] has the library's own functions over slices.

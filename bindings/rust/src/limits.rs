@@ -10,6 +10,10 @@ pub const MAX_NODES: usize = 511;
 pub const MAX_DIMENSION: u8 = 254;
 /// How many dimensions there may be: the largest d.
 pub const MAX_D: u8 = 255;
+/// The largest dimension of a formula that the producer takes.
+pub const MAX_PRODUCER_DIMENSION: u8 = 32;
+/// The depth of the deepest node of such a formula, the root being at depth 0.
+pub const MAX_PRODUCER_DEPTH: usize = 32;
 /// Clauses of a list on the way to a normal form.
 pub const MAX_CLAUSES: usize = 256;
 /// Bytes of a formula, proved; the longest formulas have 767.

@@ -98,6 +98,8 @@ unsafe extern "C" {
         out: *mut u8,
         out_len: usize,
     ) -> i64;
+    fn lf_fence_face(f: *const u8, f_len: usize) -> i64;
+    fn lf_fence_interval(r: *const u8, r_len: usize) -> i64;
     fn lf_read_face(source: *const u8, source_len: usize, out: *mut u8, out_len: usize) -> i64;
     fn lf_read_interval(source: *const u8, source_len: usize, out: *mut u8, out_len: usize) -> i64;
     fn lf_read_claim(source: *const u8, source_len: usize, a: *mut u8, a_len: usize, b: *mut u8, b_len: usize) -> i64;
@@ -235,6 +237,18 @@ pub fn entails(ledger: &mut [u8], d: u64, a: &[u8], b: &[u8]) -> i64 {
 #[inline]
 pub fn counterexample(d: u64, a: &[u8], b: &[u8], out: &mut [u8]) -> i64 {
     unsafe { lf_counterexample(d, a.as_ptr(), a.len(), b.as_ptr(), b.len(), out.as_mut_ptr(), out.len()) }
+}
+
+/// How many nodes the face f has, where the producer takes it. Refused by 2, 3, 4, 13.
+#[inline]
+pub fn fence_face(f: &[u8]) -> i64 {
+    unsafe { lf_fence_face(f.as_ptr(), f.len()) }
+}
+
+/// How many nodes the interval r has, where the producer takes it. Refused by 2, 3, 4, 13.
+#[inline]
+pub fn fence_interval(r: &[u8]) -> i64 {
+    unsafe { lf_fence_interval(r.as_ptr(), r.len()) }
 }
 
 /// The length of the face that a text is, which is in front of the output. Refused by 3, 4, 11, 6.

@@ -59,10 +59,13 @@ pub enum Refusal {
     /// 12: the implication holds, so there is no counterexample;
     /// take it as the answer: entails says yes.
     Implied,
+    /// 13: a dimension is above 32, or a node is more than 32 levels below the root, which the producer does not take;
+    /// number the dimensions that are used from 0 on, and nest the formula less deeply or split it.
+    BeyondProducer,
 }
 
 impl Refusal {
-    /// Document 01's number, 1 to 12.
+    /// Document 01's number, 1 to 13.
     pub fn number(self) -> u8 {
         self.words().0
     }
@@ -92,6 +95,7 @@ impl Refusal {
             Self::DoesNotFollow(step),
             Self::NotAccepted,
             Self::Implied,
+            Self::BeyondProducer,
         ];
         all.into_iter().find(|refusal| refusal.number() == number)
     }
@@ -146,6 +150,12 @@ impl Refusal {
             Self::Implied => {
                 (12, "the implication holds, so there is no counterexample", "take it as the answer: entails says yes")
             }
+            Self::BeyondProducer => (
+                13,
+                "a dimension is above 32, or a node is more than 32 levels below the root, \
+                 which the producer does not take",
+                "number the dimensions that are used from 0 on, and nest the formula less deeply or split it",
+            ),
         }
     }
 }

@@ -178,10 +178,19 @@ fn refusals_of_a_counterexample() {
     assert_eq!(ask(0, &[1], &[0], 0), None);
 }
 
+#[test]
+fn refusal_13() {
+    let (face, interval) = (Face::at1(33).unwrap(), Interval::dim(33).unwrap());
+    assert_eq!((face.fence(), interval.fence()), (Err(Refusal::BeyondProducer), Err(Refusal::BeyondProducer)));
+    assert_eq!(bytes::count_of(bytes::fence_face(face.as_bytes())), Err(Refusal::BeyondProducer));
+    // The calls take them.
+    assert!(ledger().face(34, &face).is_ok() && ledger().interval(34, &interval).is_ok());
+}
+
 /// Numbers, meanings and what to do are different for each, and every number is there.
 #[test]
 fn words() {
-    let all = (1..=12).map(|n| bytes::refusal_of(-n).unwrap()).collect::<Vec<_>>();
+    let all = (1..=13).map(|n| bytes::refusal_of(-n).unwrap()).collect::<Vec<_>>();
     for (i, refusal) in all.iter().enumerate() {
         assert_eq!(usize::from(refusal.number()), i + 1);
         assert!(refusal.to_string().starts_with(refusal.meaning()));
@@ -195,7 +204,7 @@ fn words() {
 
 #[test]
 fn numbers_that_nothing_answers() {
-    for number in [-13, -16, -17, -27, -28, i64::MIN] {
+    for number in [-14, -15, -16, -17, -27, -29, i64::MIN] {
         assert!(std::panic::catch_unwind(|| bytes::refusal_of(number)).is_err(), "{number}");
     }
 }

@@ -10,7 +10,7 @@ use lib.Dec.{leb}
 use lib.ListN.{length}
 use borrow.Author.Tests.{leb-true}
 use Rattle.refusals.specs.declared.Refusal.the-variants.{LargeDimension, ShortOutput, NotBelow, NotImplied}
-use Rattle.refusals.specs.Refusals.{Result, refused, done, ofOne, ofTwo}
+use Rattle.refusals.specs.Refusals.{Result, refused, done, ofOne, ofTwo, saidCounted}
 use Rattle.formula.specs.Formula.{Face}
 use Rattle.formula.specs.declared.Sort.the-variants.{Faces}
 use Rattle.formula.specs.Bytes.{boundFace, readAll, maxBound}
@@ -25,8 +25,8 @@ use Rattle.calculus.proofs.Doors.{NotRefusedTo7}
 use Rattle.assignments.specs.Assignments.{Least}
 use Rattle.assignments.proofs.Least.{least-one}
 use Rattle.assignments.proofs.Entailing.{least-refuted, least-when-9}
-use Rattle.counterexample.specs.declared.Shown.{Shown}
-use Rattle.counterexample.specs.Answers.{Claim, numbered, admitted, asked, Behind, Found, before, sought, Told, put, said, ShowsFor, Shows}
+use Rattle.refusals.specs.declared.Counted.{Counted}
+use Rattle.counterexample.specs.Answers.{Claim, numbered, admitted, asked, Behind, Found, before, sought, Told, put, ShowsFor, Shows}
 
 -- ---- what is answered is fixed
 
@@ -41,10 +41,10 @@ found-one before before = refl
 found-one {d} (sought {c} x p) (sought y q) = ap done (behind-one d c x y p q)
 
 -- Two answers to one question are the same, and so is every byte of the output.
-pub shows-one : {d : ℕ} {out : List ℕ} {x : Result Claim} {r s : Shown} {o p : List ℕ} → ShowsFor d out x r o → ShowsFor d out x s p → (said r ≡ said s) × (o ≡ p)
+pub shows-one : {d : ℕ} {out : List ℕ} {x : Result Claim} {r s : Counted} {o p : List ℕ} → ShowsFor d out x r o → ShowsFor d out x s p → (saidCounted r ≡ saidCounted s) × (o ≡ p)
 shows-one {d} {out} {r = r} {s} {o} {p} f g = (ap (λ (t : Told). t .answer) same, ap (λ (t : Told). t .output) same)
   where
-    same : _≡_ {A = Told} (record { answer = said r; output = o }) (record { answer = said s; output = p })
+    same : _≡_ {A = Told} (record { answer = saidCounted r; output = o }) (record { answer = saidCounted s; output = p })
     same = sym (f .equal) ∙ ap (put d out) (found-one (f .is) (g .is)) ∙ g .equal
 
 -- ---- what was admitted
@@ -95,17 +95,17 @@ asked-admitted d a b out c e = go (operand Faces a) (operand Faces b) refl refl 
 -- ---- at the door
 
 -- An assignment is written exactly when there is a least.
-written-least : (d : ℕ) (out : List ℕ) (c : Claim) {r : Shown} {out′ : List ℕ} → ShowsFor d out (done c) r out′ → (said r ≡ done d) ↔ ((m : List ℕ) × Least d (c .left) (c .goal) m)
+written-least : (d : ℕ) (out : List ℕ) (c : Claim) {r : Counted} {out′ : List ℕ} → ShowsFor d out (done c) r out′ → (saidCounted r ≡ done d) ↔ ((m : List ℕ) × Least d (c .left) (c .goal) m)
 written-least d out c {r} s = go (s .is) (ap (λ (t : Told). t .answer) (s .equal))
   where
-    go : {f : Result (Option (List ℕ))} → Found d (done c) f → (put d out f) .answer ≡ said r → (said r ≡ done d) ↔ ((m : List ℕ) × Least d (c .left) (c .goal) m)
+    go : {f : Result (Option (List ℕ))} → Found d (done c) f → (put d out f) .answer ≡ saidCounted r → (saidCounted r ≡ done d) ↔ ((m : List ℕ) × Least d (c .left) (c .goal) m)
     go (sought none p) e = (λ h. absurd (let k : _≡_ {A = ℕ} 0 1 = cc in omega arith), λ x. absurd (least-refuted (x .1) p))
     go (sought (some l) p) e = (λ h. (l, p), λ x. sym e)
 
 -- Where every question before the search is kept, and entails is not refused by 1 to 7, an assignment is written exactly when entails is refused by 9.
-pub written-when-9 : (d : ℕ) (a b out : List ℕ) (c : Claim) → asked d a b out ≡ done c → {r : Shown} {out′ : List ℕ} → Shows d a b out r out′
+pub written-when-9 : (d : ℕ) (a b out : List ℕ) (c : Claim) → asked d a b out ≡ done c → {r : Counted} {out′ : List ℕ} → Shows d a b out r out′
     → (l : List ℕ) (L : List Step) → readLedger l ≡ some L → NotRefusedTo7 ((reply (entails d a b) l) .answer)
-    → (said r ≡ done d) ↔ ((reply (entails d a b) l) .answer ≡ Door.refused NotImplied)
+    → (saidCounted r ≡ done d) ↔ ((reply (entails d a b) l) .answer ≡ Door.refused NotImplied)
 written-when-9 d a b out c k {r} {out′} s l L e u =
     let A = asked-admitted d a b out c k in
     let w = written-least d out c (subst (λ x. ShowsFor d out x r out′) k s) in

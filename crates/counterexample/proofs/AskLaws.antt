@@ -28,8 +28,8 @@ use Rattle.assignments.proofs.Entailing.{bytesOf, bytes-assigns, holds-bytes}
 use Rattle.needs.specs.States.{any, Fits as Allows, undetermined, free, Within}
 use Rattle.needs.specs.Places.{Stands}
 use Rattle.needs.specs.Marking.{Marks}
-use Rattle.counterexample.specs.declared.Shown.{Shown}
-use Rattle.counterexample.specs.declared.Shown.the-variants.{Written, Refused}
+use Rattle.refusals.specs.declared.Counted.{Counted}
+use Rattle.refusals.specs.declared.Counted.the-variants.{Number, Refused}
 use Rattle.counterexample.specs.Answers.{Claim, numbered, admitted, asked, Found, before, sought, ShowsFor, Shows}
 use Rattle.counterexample.specs.Asking.{beside, Sides, Sought, Faced, questioned}
 use Rattle.counterexample.specs.Exploring.{Kept, unchanged, better, Explored, Ready, Explores}
@@ -175,7 +175,7 @@ module _ (d : ℕ) (few : d ≤ 255) where
           first = λ m f i g. x .beaten m f (start-allows m (f .bytes)) .first (i ∙ e) g;
         }
 
-    pub least-found : c ≤ d → Faced d a b out done (Written d) (B′ ++ drop d out)
+    pub least-found : c ≤ d → Faced d a b out done (Number d) (B′ ++ drop d out)
     least-found h = record {
       it = λ k p q. record {
         found = done (some B′);
@@ -242,7 +242,7 @@ module _ {a b out : List ℕ} {d m n : ℕ} (s : Sides a m b n) where
         brief = s .brief;
       }
 
-      pub admitted-faced : w ≤ d → {x : Shown} {out′ : List ℕ} → Faced d a b out done x out′ → Faced d a b out (questioned d out) x out′
+      pub admitted-faced : w ≤ d → {x : Counted} {out′ : List ℕ} → Faced d a b out done x out′ → Faced d a b out (questioned d out) x out′
       admitted-faced h {x} {out′} g = record {
         it = λ c p q.
             subst (λ y. ShowsFor d out y x out′) (sym (by-tests d out c (le-leb d maxBound f) (le-leb d (length out) r) (both-low (boundFace (c .left)) (boundFace (c .goal)) d (omega (arith, h, e, low-is s c p, high-is s c q))))) (g .it c p q);
@@ -290,5 +290,5 @@ module _ (d : ℕ) (a b out : List ℕ) {r : Sized} {x : Size} (p : saidSized r 
         brief = omega (arith, ap length (goal-opened .bytes), len-short Faces (G .tree), opened-limits Faces goal-opened .0);
       }
 
-      pub both-show : {v : Shown} {out′ : List ℕ} → Faced d a b out (questioned d out) v out′ → Shows d a b out v out′
+      pub both-show : {v : Counted} {out′ : List ℕ} → Faced d a b out (questioned d out) v out′ → Shows d a b out v out′
       both-show {v} {out′} f = subst (λ z. ShowsFor d out z v out′) (sym (ap₂ (λ x y. ofOne (admitted d out) (ofTwo (numbered d) x y)) (A .is) (G .is))) (f .it claimed (left-opened .bytes) (goal-opened .bytes))

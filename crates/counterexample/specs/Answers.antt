@@ -9,14 +9,13 @@ use lib.ListN.{length}
 use lib.Seq.{sets}
 use Rattle.refusals.specs.declared.Refusal.{Refusal}
 use Rattle.refusals.specs.declared.Refusal.the-variants.{LargeDimension, ShortOutput, NotBelow, Implied}
-use Rattle.refusals.specs.Refusals.{Result, refused, done, ofOne, ofTwo}
+use Rattle.refusals.specs.Refusals.{Result, refused, done, ofOne, ofTwo, saidCounted}
 use Rattle.formula.specs.Formula.{Face, Entails}
 use Rattle.formula.specs.Bytes.{boundFace, maxBound}
 use Rattle.formula.specs.Answers.{pick, operand}
 use Rattle.formula.specs.declared.Sort.the-variants.{Faces}
 use Rattle.assignments.specs.Assignments.{Least}
-use Rattle.counterexample.specs.declared.Shown.{Shown}
-use Rattle.counterexample.specs.declared.Shown.the-variants.{Written, Refused}
+use Rattle.refusals.specs.declared.Counted.{Counted}
 
 -- The two faces that were asked about.
 pub record Claim : Type 0 where
@@ -56,17 +55,12 @@ put d out (refused e) = record { answer = refused e; output = out }
 put d out (done none) = record { answer = refused Implied; output = out }
 put d out (done (some l)) = record { answer = done d; output = sets out 0 l }
 
--- What an answer says.
-abbrev pub said : Shown → Result ℕ
-said (Written d) = done d
-said (Refused e) = refused e
-
 -- The answer and every byte of the output are those for what there is.
-pub record ShowsFor (d : ℕ) (out : List ℕ) (x : Result Claim) (r : Shown) (out′ : List ℕ) : Type 0 where
+pub record ShowsFor (d : ℕ) (out : List ℕ) (x : Result Claim) (r : Counted) (out′ : List ℕ) : Type 0 where
   pub found : Result (Option (List ℕ))
   pub is : Found d x found
-  pub equal : put d out found ≡ record { answer = said r; output = out′ }
+  pub equal : put d out found ≡ record { answer = saidCounted r; output = out′ }
 
 -- Those for the least assignment behind the no.
-abbrev pub Shows : ℕ → List ℕ → List ℕ → List ℕ → Shown → List ℕ → Type 0
+abbrev pub Shows : ℕ → List ℕ → List ℕ → List ℕ → Counted → List ℕ → Type 0
 Shows d a b out r out′ = ShowsFor d out (asked d a b out) r out′

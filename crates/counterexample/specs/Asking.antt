@@ -7,7 +7,7 @@ use Rattle.refusals.specs.declared.Refusal.{Refusal}
 use Rattle.refusals.specs.Refusals.{earlier, Result, refused, done, ofOne}
 use Rattle.formula.specs.Formula.{Face}
 use Rattle.formula.specs.Bytes.{encodeFace, boundFace}
-use Rattle.counterexample.specs.declared.Shown.{Shown}
+use Rattle.refusals.specs.declared.Counted.{Counted}
 use Rattle.counterexample.specs.Answers.{Claim, numbered, admitted, ShowsFor}
 
 -- The refusal of a first operand that is refused, beside the second.
@@ -38,7 +38,7 @@ pub record Sides (a : List ℕ) (m : ℕ) (b : List ℕ) (n : ℕ) : Type 0 wher
   pub brief : length b ≤ 1024
 
 -- The answer and the output are those for the two faces that the bytes are, after some questions.
-pub record Faced (d : ℕ) (a b out : List ℕ) (ask : Claim → Result Claim) (r : Shown) (out′ : List ℕ) : Type 0 where
+pub record Faced (d : ℕ) (a b out : List ℕ) (ask : Claim → Result Claim) (r : Counted) (out′ : List ℕ) : Type 0 where
   pub it : (c : Claim) → a ≡ encodeFace (c .left) → b ≡ encodeFace (c .goal) → ShowsFor d out (ask c) r out′
 
 -- Question 4 of d, 6 and 8.

@@ -4,10 +4,3 @@ mod explore;
 mod states;
 
 pub use answers::counterexample;
-use refusals::Refusal;
-
-// How many dimensions the assignment that was written has, or a refusal.
-pub enum Shown {
-    Written(usize),
-    Refused(Refusal),
-}

@@ -38,8 +38,8 @@ use Rattle.text.specs.declared.Length.{Length}
 use Rattle.text.specs.declared.Claim.{Claim}
 use Rattle.grammar.proofs.Accepting.{ClaimWithin, claim-read}
 use Rattle.numbers.specs.Answers.{deskNumber, replyNumber, countNumber, claimNumber, Reads, ReadsBoth, Numbers, Exhibits}
-use Rattle.counterexample.specs.declared.Shown.{Shown}
-use Rattle.counterexample.specs.Answers.{Told, said as saidShown, Shows}
+use Rattle.refusals.specs.declared.Counted.{Counted}
+use Rattle.counterexample.specs.Answers.{Told, Shows}
 use Rattle.numbers.specs.Packing.{Packs, ClaimFits, Low, verdictNumber}
 
 -- A ledger has fewer steps than bytes.
@@ -153,7 +153,7 @@ claim-fits {l} {a} {b} h =
     }
 
 -- A counterexample as one number.
-pub shown-number : {d : ℕ} {a b out : List ℕ} {s : Shown} {out′ : List ℕ} {r : ℕ} → Shows d a b out s out′ → r ≡ countNumber (saidShown s) → Exhibits d a b out r out′
+pub shown-number : {d : ℕ} {a b out : List ℕ} {s : Counted} {out′ : List ℕ} {r : ℕ} → Shows d a b out s out′ → r ≡ countNumber (Refusals.saidCounted s) → Exhibits d a b out r out′
 shown-number h e = record {
   found = h .found;
   is = h .is;

@@ -16,6 +16,7 @@ ghost use Rattle.text.specs.Answers.{delivered, bothDelivered};
 ghost use Rattle.writing.specs.Answers.{written};
 ghost use Rattle.listing.specs.Answers.{lineOf};
 ghost use Rattle.normal.specs.Answers.{normalOf};
+ghost use Rattle.syntax.specs.Syntax.{counted as nodesCounted};
 ghost use Rattle.claims.specs.Facesteps.{facesteps};
 ghost use Rattle.repeat_test.specs.Repeats.{repeatTest};
 ghost use Rattle.numbers.specs.Answers.{countNumber, deskNumber, repeatNumber, partNumber, Numbers, Reads, Exhibits, ReadsBoth, isOne};
@@ -190,7 +191,23 @@ pub extern "C" fn lf_normal(f: &[u8], out: &mut [u8]) -> u64
 pub extern "C" fn lf_counterexample(d: u64, a: &[u8], b: &[u8], out: &mut [u8]) -> u64
     ensures { λ r. ⌜ Exhibits d (now (a .entry)) (now (b .entry)) (now (out .entry)) r (now (out .exit)) ⌝ }
 {
-    numbers::shown(counterexample::counterexample(d as usize, a, b, out))
+    numbers::counted(counterexample::counterexample(d as usize, a, b, out))
+}
+
+// The nodes of a face within the producer's limits.
+#[no_mangle]
+pub extern "C" fn lf_fence_face(f: &[u8]) -> u64
+    ensures { λ r. ⌜ r ≡ countNumber (nodesCounted Sort.Faces (now (f .entry))) ⌝ }
+{
+    numbers::counted(syntax::count(Sort::Faces, f))
+}
+
+// The nodes of an interval within the producer's limits.
+#[no_mangle]
+pub extern "C" fn lf_fence_interval(r: &[u8]) -> u64
+    ensures { λ x. ⌜ x ≡ countNumber (nodesCounted Sort.Intervals (now (r .entry))) ⌝ }
+{
+    numbers::counted(syntax::count(Sort::Intervals, r))
 }
 
 // The line of a step of the ledger, in front of the output; nothing past the last step.

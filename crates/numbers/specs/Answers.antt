@@ -30,7 +30,7 @@ replyNumber (answered n []) = n
 replyNumber (answered n (m ∷ ms)) = n + 4294967296 * m .bytes
 replyNumber (Door.refused e) = refused (number e)
 
--- A number of steps, bytes or dimensions, or the refusal.
+-- A number of steps, bytes, dimensions or nodes, or the refusal.
 abbrev pub countNumber : Result ℕ → ℕ
 countNumber (done n) = n
 countNumber (Refusals.refused e) = refused (number e)

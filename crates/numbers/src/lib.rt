@@ -1,8 +1,8 @@
 // Answers as one number (specs/Answers): a refusal is negative.
-use counterexample::Shown;
 use desk::Verdict;
 use ledger::Checked;
 use lookup::Part;
+use refusals::Counted;
 use refusals::Refusal;
 use repeat_test::Compared;
 use replies::Called;
@@ -11,12 +11,12 @@ use text::Claim;
 use text::Length;
 ghost use mathlib.Core.Path.{_≡_};
 ghost use Prim.Native.Nat.{_<_};
+ghost use Rattle.refusals.specs.Refusals.{saidCounted};
 ghost use Rattle.calculus.specs.Door.{refused as refusedBy};
 ghost use Rattle.ledger.specs.Checks.{saidChecked};
 ghost use Rattle.replies.specs.Replying.{said, saidOne, saidBoth};
 ghost use Rattle.text.specs.Answers.{saidLength, saidClaim};
 ghost use Rattle.repeat_test.specs.Repeats.{said as saidRepeats};
-ghost use Rattle.counterexample.specs.Answers.{said as saidShown};
 ghost use Rattle.numbers.specs.Answers.{replyNumber, countNumber, claimNumber, repeatNumber, partNumber, isOne};
 ghost use Rattle.numbers.specs.Packing.{Packs, ClaimFits, Low, verdictNumber};
 
@@ -69,13 +69,13 @@ pub fn length(a: Length) -> u64
     }
 }
 
-// The dimensions of an assignment that was written.
-pub fn shown(a: Shown) -> u64
-    ensures { λ r. ⌜ r ≡ countNumber (saidShown a) ⌝ }
+// The dimensions of an assignment that was written, the nodes of a formula.
+pub fn counted(a: Counted) -> u64
+    ensures { λ r. ⌜ r ≡ countNumber (saidCounted a) ⌝ }
 {
     match a {
-        Shown::Written(d) => d as u64,
-        Shown::Refused(e) => refused(e),
+        Counted::Number(n) => n as u64,
+        Counted::Refused(e) => refused(e),
     }
 }
 

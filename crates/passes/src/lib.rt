@@ -5,6 +5,7 @@ mod weighing;
 
 pub use rewriting::rewrite;
 pub use sides::side;
+pub use weighing::place_by;
 pub use weighing::weigh;
 
 // What a pass does to the dimensions: raises those from k on; lowers those above k and replaces k itself; or makes the

@@ -48,7 +48,7 @@ fn lowered(k: usize, n: usize) -> Moved
 
 // The place that a step led to. In a formula no step is stuck; its answer is no place that the caller holds, since to
 // choose between two of those keeps both in memory.
-pub(crate) fn place_by(x: Advance) -> Place
+pub fn place_by(x: Advance) -> Place
     ensures { λ r. ⌜ r ≡ placeBy x ⌝ }
 {
     match x {

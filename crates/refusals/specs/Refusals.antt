@@ -3,7 +3,9 @@ use Prim.Native.Nat.{ℕ}
 use mathlib.Core.Bool.{Bool, true, false}
 use lib.Dec.{leb}
 use Rattle.refusals.specs.declared.Refusal.{Refusal}
-use Rattle.refusals.specs.declared.Refusal.the-variants.{IllFormedLedger, NotAFormula, TooManyNodes, LargeDimension, LargeResult, ShortOutput, FullLedger, NotBelow, NotImplied, DoesNotFollow, NotAccepted, Implied}
+use Rattle.refusals.specs.declared.Refusal.the-variants.{IllFormedLedger, NotAFormula, TooManyNodes, LargeDimension, LargeResult, ShortOutput, FullLedger, NotBelow, NotImplied, DoesNotFollow, NotAccepted, Implied, BeyondProducer}
+use Rattle.refusals.specs.declared.Counted.{Counted}
+use Rattle.refusals.specs.declared.Counted.the-variants.{Number, Refused}
 
 -- The number of a refusal (document 01, "Questions at the door"; from 12 on document 02).
 abbrev pub number : Refusal → ℕ
@@ -19,6 +21,7 @@ number NotImplied = 9
 number DoesNotFollow = 10
 number NotAccepted = 11
 number Implied = 12
+number BeyondProducer = 13
 
 -- The one with the lower number: the first no decides.
 abbrev pub earlier : Refusal → Refusal → Refusal
@@ -44,3 +47,8 @@ ofTwo f (refused e) (refused q) = refused (earlier e q)
 ofTwo f (refused e) (done b) = refused e
 ofTwo f (done a) (refused q) = refused q
 ofTwo f (done a) (done b) = f a b
+
+-- What an answer about a number says.
+abbrev pub saidCounted : Counted → Result ℕ
+saidCounted (Number n) = done n
+saidCounted (Refused e) = refused e

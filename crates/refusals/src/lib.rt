@@ -16,6 +16,13 @@ pub enum Refusal {
     DoesNotFollow,
     NotAccepted,
     Implied,
+    BeyondProducer,
+}
+
+// A number that was asked for, or why it is refused.
+pub enum Counted {
+    Number(usize),
+    Refused(Refusal),
 }
 
 // Document 01's number of a refusal.
@@ -35,6 +42,7 @@ pub fn number(r: Refusal) -> usize
         Refusal::DoesNotFollow => 10,
         Refusal::NotAccepted => 11,
         Refusal::Implied => 12,
+        Refusal::BeyondProducer => 13,
     }
 }
 

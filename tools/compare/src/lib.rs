@@ -1,6 +1,8 @@
 //! Our library beside the published Rust: see README.md.
+pub mod admitted;
 pub mod counterexamples;
 pub mod expected;
+pub mod fences;
 pub mod foreign;
 pub mod lent;
 pub mod library;

@@ -42,6 +42,11 @@ pub fn write(sort: Sort, operand: &[u8], out: &mut [u8]) -> i64 {
     if sort == Sort::Face { bytes::write_face(operand, out) } else { bytes::write_interval(operand, out) }
 }
 
+/// Asks whether a formula of a sort is within the producer's limits.
+pub fn fence(sort: Sort, operand: &[u8]) -> i64 {
+    if sort == Sort::Face { bytes::fence_face(operand) } else { bytes::fence_interval(operand) }
+}
+
 /// An answer as the library gives it: step + 2^32 * length of the result, or
 /// the refusal's number with a minus. Both faces of a boundary are as long.
 pub fn number(answer: &Answer) -> i64 {

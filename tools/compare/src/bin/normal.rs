@@ -16,6 +16,8 @@ const BATCH: usize = 1_000;
 /// Every face of so many nodes over so many dimensions is asked.
 const NODES: usize = 7;
 const DIMENSIONS: u8 = 2;
+/// Bytes that faces have, or just not.
+const NEARLY: [u8; 11] = [0, 1, 2, 3, 4, 5, 6, 16, 18, 254, 255];
 
 const SMALL: &str = "every face up to 7 nodes over 2 dimensions";
 const STRINGS: &str = "short strings of bytes";
@@ -51,7 +53,7 @@ fn fixed(c: &mut Comparison, part: &'static str, operands: &[Vec<u8>]) {
 fn run(c: &mut Comparison, faces: u64, seed: u64) {
     let small: Vec<_> = faces_up_to(NODES, DIMENSIONS).iter().map(|f| f.bytes()).collect();
     fixed(c, SMALL, &small);
-    fixed(c, STRINGS, &limits::short_strings());
+    fixed(c, STRINGS, &limits::short_strings(&NEARLY));
     let slow = worst::worst().into_iter().skip(worst::TAKE_SECONDS).map(|(_, face)| face);
     let hand: Vec<_> = limits::faces().into_iter().chain(slow).map(|face| face.bytes()).collect();
     fixed(c, HAND, &hand);

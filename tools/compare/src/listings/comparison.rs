@@ -1,10 +1,9 @@
 //! Both sides beside one another, batch by batch, with counts of what was compared.
+use crate::admitted::admitted;
 use crate::listings::ledgers::{Asked, Ledger};
 use crate::listings::{asked, facesteps, printer, smaller};
 use crate::outputs::{Said, one};
 use crate::stack::on_stack;
-use judge::call::{Call, Name};
-use judge::door;
 use judge::formula::Sort;
 use judge::random::Random;
 use judge::session::fresh;
@@ -58,11 +57,8 @@ fn needed(said: &Said) -> usize {
 
 /// What a writer of formulas should write.
 fn written(sort: Sort, operand: &[u8]) -> Said {
-    let name = if sort == Sort::Face { Name::Face } else { Name::Interval };
-    let call = Call { operands: vec![operand.to_vec()], ..Call::new(name, 0, &[]) };
-    let seen = door::admit(&call).map_err(|question| question as u8)?;
     let mut text = vec![];
-    printer::formula(&seen.operands[0], &mut text);
+    printer::formula(&admitted(sort, operand)?, &mut text);
     one(Ok(text))
 }
 

@@ -1,9 +1,8 @@
 //! What `lf_normal` should answer: the door of `tools/oracle`, the published `Face::normal`, and document 01's limits.
+use crate::admitted::admitted;
 use crate::normal::copied::{self, MOST_CLAUSES, Watch};
 use crate::outputs::{Said, one};
-use judge::call::{Call, Name};
-use judge::door;
-use judge::formula::{AND, AT0, AT1, FF, FT, OR, Tree, has_dimension};
+use judge::formula::{AND, AT0, AT1, FF, FT, OR, Sort, has_dimension};
 use judge::ledger::MOST_NODES;
 use judge::session::rust_face;
 use published::cubical::engine::face_frontend::Face;
@@ -62,13 +61,6 @@ pub fn count_nodes(bytes: &[u8]) -> usize {
     count
 }
 
-/// Questions 2 to 4.
-fn admitted(operand: &[u8]) -> Result<Tree, u8> {
-    let call = Call { operands: vec![operand.to_vec()], ..Call::new(Name::Face, 0, &[]) };
-    let seen = door::admit(&call).map_err(|question| question as u8)?;
-    Ok(seen.operands.into_iter().next().expect("one operand"))
-}
-
 fn refused(question: u8, nodes: usize) -> Expected {
     let reason = ANSWERS[usize::from(question) - 1];
     Expected { said: Err(question), reason, nodes, watch: Watch::default(), result: None, copy_differs: false }
@@ -94,7 +86,7 @@ fn normal(f: &Face, nodes: usize) -> Expected {
 }
 
 pub fn expected(operand: &[u8]) -> Expected {
-    match admitted(operand) {
+    match admitted(Sort::Face, operand) {
         Err(2) => refused(2, 0),
         Err(question) => refused(question, count_nodes(operand)),
         Ok(tree) => normal(&rust_face(&tree), count_nodes(operand)),

@@ -204,12 +204,11 @@ fn strings(bytes: &[u8], length: usize) -> Vec<Vec<u8>> {
     })
 }
 
-/// Every string of at most two bytes, and of at most four that faces have or just not.
-pub fn short_strings() -> Vec<Vec<u8>> {
+/// Every string of at most two bytes, and of at most four of these.
+pub fn short_strings(some: &[u8]) -> Vec<Vec<u8>> {
     let every: Vec<u8> = (0..=255).collect();
-    let some = [0, 1, 2, 3, 4, 5, 6, 16, 18, 254, 255];
     let mut found = vec![vec![]];
     found.extend((1..=2).flat_map(|n| strings(&every, n)));
-    found.extend((3..=4).flat_map(|n| strings(&some, n)));
+    found.extend((3..=4).flat_map(|n| strings(some, n)));
     found
 }

@@ -1,0 +1,4 @@
+pub mod WordLaws
+pub mod DepthLaws
+pub mod AnswerLaws
+pub mod Producing
