@@ -178,7 +178,7 @@ def drawn(groups):
         f'font-family="DejaVu Sans, Arial, Helvetica, sans-serif" fill="{INK}">',
         f'<rect width="{WIDTH}" height="{height:g}" fill="white"/>',
         text(12, 26, "Times of our library beside the Rust's, log scale", 15, ' font-weight="bold"'),
-        text(12, 50, f"{counted(calls, 'calls')}. With readers, normal forms and a growing ledger {counted(every, 'rows')}.", 10),
+        text(12, 50, f"{counted(calls, 'calls')}. In all tables together {counted(every, 'rows')}.", 10),
         *legend(),
     ]
     for x, _ in marks(low):
