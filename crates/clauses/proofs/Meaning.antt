@@ -6,8 +6,8 @@ use mathlib.Core.Bool.{Bool, true, false, _&&_, _||_, false≢true, and-eq-true-
 use mathlib.Mathlib.Data.Bool.Basic.{eq-false-of-not-eq-true}
 use mathlib.Core.Option.{Option, none, some, Option·some-injective, Option·none-ne-some}
 use mathlib.Core.List.{List, [], _∷_, _++_, List·Memᴰ·head as here, List·Memᴰ·tail as there}
-use Rattle.formula.specs.Formula.{End, lo, hi, other, Face, at, fand, for, Val, v0, v1, vu, is, Assignment, holds}
-use Rattle.clauses.specs.Normal.{numbered, endBy, literal, opposite, Clause, entered, lex, any, properly, opposed, union, sets-of-literals, minimal, prune, pairs, literal-sets, dnf, ands, conjunction, ors, disjunction, formed, normal}
+use Rattle.formula.specs.Formula.{End, lo, hi, other, endOf, Face, at, fand, for, Val, v0, v1, vu, is, Assignment, holds}
+use Rattle.clauses.specs.Normal.{numbered, literal, opposite, Clause, entered, lex, any, properly, opposed, union, sets-of-literals, minimal, prune, pairs, literal-sets, dnf, ands, conjunction, ors, disjunction, formed, normal}
 use Rattle.clauses.proofs.Keeping.{Kept, clauses-kept}
 use Rattle.clauses.proofs.Orders.{lex-orders}
 use Rattle.clauses.proofs.Members.{_∈_, Found, found-map, any-found, found-any, entered-second, least-found, prune-has, pairs-has, pairs-of}
@@ -81,7 +81,7 @@ literal-holds e n σ = rw literal-numbered
 
 not-opposite : (k : ℕ) (σ : Assignment) → holds (literal k) σ ≡ true → holds (literal (opposite k)) σ ≡ true → ⊥
 unfolding holds literal opposite
-not-opposite k σ p q = let e = endBy (k % 2) in not-both e (σ (k / 2)) p (sym (literal-holds (other e) (k / 2) σ) ∙ q)
+not-opposite k σ p q = let e = endOf (k % 2) in not-both e (σ (k / 2)) p (sym (literal-holds (other e) (k / 2) σ) ∙ q)
 
 not-opposed : (σ : Assignment) (c d : Clause) → Holds σ c → Holds σ d → opposed c d ≡ false
 not-opposed σ c d p q = eq-false-of-not-eq-true (λ e. let f = opposed-found c d e in not-opposite (f .element) σ (p (f .element) (f .member)) (q (opposite (f .element)) (f .so)))

@@ -8,15 +8,15 @@ use mathlib.Core.List.{[], _∷_, List·Memᴰ·head as here, List·Memᴰ·tail
 use native.Mathlib.Omega.{arith}
 use lib.Dec.{eqb}
 use borrow.Author.Tests.{eqb-true, eq-eqb, not-true}
-use Rattle.formula.specs.Formula.{End, lo, hi, other, at}
-use Rattle.clauses.specs.Normal.{numbered, endBy, literal, opposite, Clause, any, inside, properly, opposed, union}
+use Rattle.formula.specs.Formula.{End, lo, hi, other, endOf, at}
+use Rattle.clauses.specs.Normal.{numbered, literal, opposite, Clause, any, inside, properly, opposed, union}
 use Rattle.clauses.proofs.Orders.{compare-orders}
 use Rattle.clauses.proofs.Members.{_∈_, Found, found-map, any-found, found-any, entered-has, entered-first, entered-second, Strict}
 
 -- The number of a literal tells its end and its dimension.
-endBy-numbered : (e : End) (n : ℕ) → endBy (numbered e n % 2) ≡ e
-endBy-numbered lo n = let p : 2 * n % 2 ≡ 0 = omega arith in rw p
-endBy-numbered hi n = let p : (2 * n + 1) % 2 ≡ 1 = omega arith in rw p
+end-numbered : (e : End) (n : ℕ) → endOf (numbered e n % 2) ≡ e
+end-numbered lo n = let p : 2 * n % 2 ≡ 0 = omega arith in rw p
+end-numbered hi n = let p : (2 * n + 1) % 2 ≡ 1 = omega arith in rw p
 
 half-numbered : (e : End) (n : ℕ) → numbered e n / 2 ≡ n
 half-numbered lo n = omega arith
@@ -24,19 +24,19 @@ half-numbered hi n = omega arith
 
 pub literal-numbered : (e : End) (n : ℕ) → literal (numbered e n) ≡ at e n
 unfolding literal
-literal-numbered e n = ap₂ at (endBy-numbered e n) (half-numbered e n)
+literal-numbered e n = ap₂ at (end-numbered e n) (half-numbered e n)
 
 -- And they tell the number.
-pub numbered-literal : (k : ℕ) → numbered (endBy (k % 2)) (k / 2) ≡ k
+pub numbered-literal : (k : ℕ) → numbered (endOf (k % 2)) (k / 2) ≡ k
 numbered-literal k = go (k % 2) refl
   where
-    go : (r : ℕ) → k % 2 ≡ r → numbered (endBy r) (k / 2) ≡ k
+    go : (r : ℕ) → k % 2 ≡ r → numbered (endOf r) (k / 2) ≡ k
     go zero e = omega arith
     go (suc r) e = omega arith
 
 pub opposite-numbered : (e : End) (n : ℕ) → opposite (numbered e n) ≡ numbered (other e) n
 unfolding opposite
-opposite-numbered e n = rw (endBy-numbered, half-numbered)
+opposite-numbered e n = rw (end-numbered, half-numbered)
 
 -- A literal is the opposite of its opposite.
 other-other : (e : End) → other (other e) ≡ e
@@ -45,7 +45,7 @@ other-other hi = refl
 
 pub opposite-opposite : (k : ℕ) → opposite (opposite k) ≡ k
 unfolding opposite
-opposite-opposite k = rw (endBy-numbered, half-numbered, other-other) (numbered-literal k)
+opposite-opposite k = rw (end-numbered, half-numbered, other-other) (numbered-literal k)
 
 -- And is not its own.
 other-differs : (e : End) → other e ≡ e → ⊥
@@ -54,7 +54,7 @@ other-differs hi p = let z : _≡_ {A = ℕ} 0 1 = cc in omega arith
 
 pub opposite-differs : (k : ℕ) → opposite k ≡ k → ⊥
 unfolding opposite
-opposite-differs k p = let e = endBy (k % 2) in other-differs e (sym (endBy-numbered (other e) (k / 2)) ∙ ap (λ j. endBy (j % 2)) p)
+opposite-differs k p = let e = endOf (k % 2) in other-differs e (sym (end-numbered (other e) (k / 2)) ∙ ap (λ j. endOf (j % 2)) p)
 
 -- A number is listed exactly if it is in the list.
 pub listed : (k : ℕ) (d : Clause) → any (eqb k) d ≡ true → k ∈ d

@@ -7,8 +7,8 @@ use mathlib.Core.Logic.{_↔_}
 use mathlib.Core.Option.{some}
 use mathlib.Core.List.{List}
 use lib.Dec.{eqb}
-use Rattle.formula.specs.Formula.{End, lo, hi, Face, Val, v0, v1, vu, is, Assignment, holds}
-use Rattle.clauses.specs.Normal.{numbered, endBy, literal, Clause, any, inside, opposed, dnf, disjunction, normal}
+use Rattle.formula.specs.Formula.{End, lo, hi, endOf, Face, Val, v0, v1, vu, is, Assignment, holds}
+use Rattle.clauses.specs.Normal.{numbered, literal, Clause, any, inside, opposed, dnf, disjunction, normal}
 use Rattle.clauses.specs.Shape.{Consistent, Irredundant}
 use Rattle.clauses.proofs.Orders.{compare-orders, lex-orders}
 use Rattle.clauses.proofs.Members.{_∈_, Found, found-map}
@@ -48,15 +48,15 @@ least-all c o lo n m = rw (lists m)
 least-all c o hi n m = rw (lists m, eq-false-of-not-eq-true (λ p. true≢false (sym (found-opposed m (rw opposite-numbered (listed (numbered lo n) c p))) ∙ o)))
 
 -- So a consistent clause holds at its least assignment, and every clause that does is inside it.
-literal-at : (k : ℕ) (σ : Assignment) → holds (literal k) σ ≡ is (endBy (k % 2)) (σ (k / 2))
+literal-at : (k : ℕ) (σ : Assignment) → holds (literal k) σ ≡ is (endOf (k % 2)) (σ (k / 2))
 unfolding holds literal
 literal-at k σ = refl
 
 least-holds : (c : Clause) → opposed c c ≡ false → Holds (least c) c
-least-holds c o k m = literal-at k (least c) ∙ least-all c o (endBy (k % 2)) (k / 2) (rw numbered-literal m)
+least-holds c o k m = literal-at k (least c) ∙ least-all c o (endOf (k % 2)) (k / 2) (rw numbered-literal m)
 
 least-inside : (c d : Clause) → Holds (least c) d → inside d c ≡ true
-least-inside c d h = has-inside d c (λ k m. rw numbered-literal at (least-only c (endBy (k % 2)) (k / 2) (sym (literal-at k (least c)) ∙ h k m)))
+least-inside c d h = has-inside d c (λ k m. rw numbered-literal at (least-only c (endOf (k % 2)) (k / 2) (sym (literal-at k (least c)) ∙ h k m)))
 
 -- Each clause of a list has inside it one of every list that is met wherever the first is.
 clause-inside : (l m : List Clause) → ((σ : Assignment) → met σ l ≡ true → met σ m ≡ true) → (c : Clause) → c ∈ l → Consistent c → Found (λ d. inside d c ≡ true) m

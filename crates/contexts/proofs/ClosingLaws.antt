@@ -7,8 +7,8 @@ use mathlib.Core.List.{List, [], _∷_, _++_, append-assoc}
 use lib.ListN.{length, take}
 use lib.Seq.{sets}
 use Rattle.formula.specs.declared.Sort.the-variants.{Faces}
-use Rattle.formula.specs.Formula.{End, lo, hi, Face, ff, ft, at}
-use Rattle.formula.specs.Bytes.{dimBytes, encodeFace, nodesFace, boundFace}
+use Rattle.formula.specs.Formula.{lo, hi, Face, ff, ft, at}
+use Rattle.formula.specs.Bytes.{encodeFace, nodesFace, boundFace}
 use Rattle.calculus.specs.Judgement.{Step, member, cover}
 use Rattle.calculus.specs.Rules
 use Rattle.calculus.specs.Record.{littleEndian, operandBytes}
@@ -60,27 +60,17 @@ pub by-member-up : {l l₁ l₂ : Book} {b k : List ℕ} {r s : Ran} {n i : ℕ}
     → Runs l (emitMember f G) r l₁ → doneBy r ≡ true → i ≡ stepBy r → Emits l₁ kind (i ∷ 0 ∷ 0 ∷ []) (operandBytes (cover G g)) s l₂ → Runs l (coverBy kind f G g) s l₂
 by-member-up kind f G g w a u h d j t = after-up {kind = kind} {j = cover G g} refl h d j u (cover-limited w a) refl t
 
--- The bytes of a literal.
-abbrev byteOf : End → ℕ
-byteOf lo = 2
-byteOf hi = 3
-
-pub literal-is : (e : End) (k : ℕ) {m : List ℕ} → k < 255 → m ≡ byteOf e ∷ dimBytes k → Is Faces (at e k) m
-unfolding encodeFace nodesFace boundFace
-literal-is lo k h e = record { bytes = e; few = omega arith; low = omega arith }
-literal-is hi k h e = record { bytes = e; few = omega arith; low = omega arith }
-
 -- The two literals of a clash.
-module _ (k : ℕ) (G : List Face) (g : Face) {l l₁ : Book} {m : List ℕ} {r : Ran} (q : k < 255) (e : m ≡ 2 ∷ dimBytes k) (h : Runs l (emitMember (treeOf Faces m) G) r l₁) where
+module _ (k : ℕ) (G : List Face) (g : Face) {l l₁ : Book} {m : List ℕ} {r : Ran} (p : Is Faces (at lo k) m) (h : Runs l (emitMember (treeOf Faces m) G) r l₁) where
   low : Runs l (emitMember (at lo k) G) r l₁
-  low = subst (λ (f : Face). Runs l (emitMember f G) r l₁) (tree-of (literal-is lo k q e)) h
+  low = subst (λ (f : Face). Runs l (emitMember f G) r l₁) (tree-of p) h
 
   pub clash-stop : doneBy r ≡ false → Runs l (coverClash k G g) r l₁
   clash-stop d = two-stop {kind = 24} {j = cover G g} (emitMember (at hi k) G) refl low d
 
-  module _ {l₂ : Book} {m₂ : List ℕ} {s : Ran} (d : doneBy r ≡ true) (e₂ : m₂ ≡ 3 ∷ dimBytes k) (h₂ : Runs l₁ (emitMember (treeOf Faces m₂) G) s l₂) where
+  module _ {l₂ : Book} {m₂ : List ℕ} {s : Ran} (d : doneBy r ≡ true) (p₂ : Is Faces (at hi k) m₂) (h₂ : Runs l₁ (emitMember (treeOf Faces m₂) G) s l₂) where
     high : Runs l₁ (emitMember (at hi k) G) s l₂
-    high = subst (λ (f : Face). Runs l₁ (emitMember f G) s l₂) (tree-of (literal-is hi k q e₂)) h₂
+    high = subst (λ (f : Face). Runs l₁ (emitMember f G) s l₂) (tree-of p₂) h₂
 
     pub clash-stop-2 : doneBy s ≡ false → Runs l (coverClash k G g) s l₂
     clash-stop-2 f = two-stop-2 {kind = 24} {j = cover G g} (emitMember (at hi k) G) refl low d high f

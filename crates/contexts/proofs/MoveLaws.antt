@@ -6,9 +6,10 @@ use mathlib.Core.Bool.{Bool, true, false, _||_, decide, false≢true}
 use mathlib.Core.List.{List, [], _∷_, _++_, append-assoc, append-nil}
 use lib.ListN.{length, getD, take, drop}
 use Rattle.formula.specs.declared.Sort.the-variants.{Faces}
-use Rattle.formula.specs.Formula.{lo, hi, Face, ff, ft, at, fand, for}
+use Rattle.formula.specs.Formula.{lo, hi, endOf, Face, ff, ft, at, fand, for}
 use Rattle.formula.specs.Bytes.{dimBytes, encodeFace, nodesFace, boundFace}
 use Rattle.formula.specs.Answers.{partAt, treeOf}
+use Rattle.formula.proofs.Nodes.{literal-kind}
 use Rattle.formula.proofs.Reading.{encode-pos}
 use Rattle.calculus.specs.Judgement.{sameFace}
 use Rattle.calculus.specs.Search.{Move, by-clash, stuck, _else_, provided, has, clashOf, tryClash, splitOf, tryLeft}
@@ -80,32 +81,37 @@ compound-stuck (for y z) G e = refl
 pub compound-free : {x : Face} {l : List ℕ} {b : ℕ} → Is Faces x l → (G : List Face) → b ≡ getD l 0 0 → 3 < b → stuck ≡ clashOf G x
 compound-free {x} w G e h = compound-stuck x G (compound-kind x (omega (arith, first-byte w)))
 
--- The opposite of a literal of kind byte b at dimension k, and when they clash.
+-- The bytes of a literal, by its side.
+pub literal-is : (side k : ℕ) {b : ℕ} {m : List ℕ} → k < 255 → side ≤ 1 → b ≡ 2 + side → m ≡ b ∷ dimBytes k → Is Faces (at (endOf side) k) m
+unfolding nodesFace boundFace
+literal-is side k h i j e = record { bytes = e ∙ sym (literal-kind i j k); few = omega arith; low = omega arith }
+
+-- The opposite of a literal of kind byte b, whose side is b - 2 and the other one 3 - b.
 pub record Opposite (x : Face) (l : List ℕ) (b : ℕ) : Type 0 where
+  pub side : 2 ≤ b
   pub long : length l ≡ 2
-  pub face : Face
-  pub is : Is Faces face ((5 - b) ∷ dimBytes (getD l 1 0))
-  pub says : (G : List Face) → clashOf G x ≡ provided (has face G) (by-clash (getD l 1 0))
+  pub low : getD l 1 0 < 255
+  pub says : (G : List Face) → clashOf G x ≡ provided (has (at (endOf (3 - b)) (getD l 1 0)) G) (by-clash (getD l 1 0))
 
 literal : (x : Face) (l : List ℕ) → Is Faces x l → 2 ≤ kind x → kind x ≤ 3 → Opposite x l (kind x)
-unfolding encodeFace nodesFace boundFace
+unfolding encodeFace boundFace
 literal ff l w h i = absurd (omega arith)
 literal ft l w h i = absurd (omega arith)
 literal (at lo n) l w h i =
     let e : getD l 1 0 ≡ n = ap (λ (m : List ℕ). getD m 1 0) (w .bytes) in
     record {
+      side = h;
       long = ap length (w .bytes);
-      face = at hi n;
-      is = record { bytes = ap (λ (k : ℕ). 3 ∷ k ∷ []) e; few = w .few; low = w .low };
-      says = λ G. ap (λ (k : ℕ). provided (has (at hi n) G) (by-clash k)) (sym e);
+      low = omega (arith, e, w .low);
+      says = λ G. ap (λ (k : ℕ). provided (has (at hi k) G) (by-clash k)) (sym e);
     }
 literal (at hi n) l w h i =
     let e : getD l 1 0 ≡ n = ap (λ (m : List ℕ). getD m 1 0) (w .bytes) in
     record {
+      side = h;
       long = ap length (w .bytes);
-      face = at lo n;
-      is = record { bytes = ap (λ (k : ℕ). 2 ∷ k ∷ []) e; few = w .few; low = w .low };
-      says = λ G. ap (λ (k : ℕ). provided (has (at lo n) G) (by-clash k)) (sym e);
+      low = omega (arith, e, w .low);
+      says = λ G. ap (λ (k : ℕ). provided (has (at lo k) G) (by-clash k)) (sym e);
     }
 literal (fand y z) l w h i = absurd (omega arith)
 literal (for y z) l w h i = absurd (omega arith)
@@ -115,14 +121,17 @@ opposite {x} {l} {b} w e h i =
     let f : b ≡ kind x = e ∙ first-byte w in
     subst (Opposite x l) (sym f) (literal x l w (omega arith) (omega arith))
 
-module _ {x : Face} {l : List ℕ} {b : ℕ} (o : Opposite x l b) {m : List ℕ} {k : ℕ} (e : m ≡ (5 - b) ∷ dimBytes k) (j : k ≡ getD l 1 0) where
+module _ {x : Face} {l : List ℕ} {b : ℕ} (o : Opposite x l b) {c k : ℕ} (w : c ≡ 2 + (3 - b)) {m : List ℕ} (e : m ≡ c ∷ dimBytes k) (j : k ≡ getD l 1 0) where
+  is : Is Faces (at (endOf (3 - b)) k) m
+  is = literal-is (3 - b) k (omega (arith, j, o .low)) (omega (arith, o .side)) w e
+
   pub opposite-known : Known Faces m
-  opposite-known = known (subst (Is Faces (o .face)) (sym (e ∙ ap (λ (y : ℕ). (5 - b) ∷ dimBytes y) j)) (o .is))
+  opposite-known = known is
 
   clashes : (G : List Face) (t : Bool) → t ≡ has (treeOf Faces m) G → clashOf G x ≡ provided t (by-clash k)
   clashes G t h =
-      let f : treeOf Faces m ≡ o .face = tree-of (subst (Is Faces (o .face)) (sym (e ∙ ap (λ (y : ℕ). (5 - b) ∷ dimBytes y) j)) (o .is)) in
-      o .says G ∙ ap₂ (λ (y : Bool) (z : ℕ). provided y (by-clash z)) (sym (h ∙ ap (λ (y : Face). has y G) f)) (sym j)
+      o .says G ∙ ap (λ (z : ℕ). provided (has (at (endOf (3 - b)) z) G) (by-clash z)) (sym j)
+      ∙ ap (λ (y : Bool). provided y (by-clash k)) (sym (h ∙ ap (λ (f : Face). has f G) (tree-of is)))
 
   pub opposite-clash : (G : List Face) {t : Bool} → t ≡ has (treeOf Faces m) G → t ≡ true → by-clash k ≡ clashOf G x
   opposite-clash G h i = sym (clashes G true (sym i ∙ h))

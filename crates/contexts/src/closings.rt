@@ -94,11 +94,11 @@ pub fn by_clash(l: &mut [u8], ix: &mut [u32], k: usize, n: usize, g: &[u8], goal
     requires { ⌜ Indexed (now l) (now ix) × (k < 255) × Context n (now g) × Known Faces (now goal) ⌝ }
     ensures { λ r. ⌜ Runs (book (now (l .entry)) (now (ix .entry))) (coverClash k (contextOf n (now (g .entry))) (treeOf Faces (now (goal .entry)))) r (book (now (l .exit)) (now (ix .exit))) ⌝ }
 {
-    let r = members::member(l, ix, &steps::literal(2, k), n, g);
+    let r = members::member(l, ix, &steps::literal(formula::literal_kind(0), k), n, g);
     if !steps::is_done(r) {
         return r;
     }
-    let s = members::member(l, ix, &steps::literal(3, k), n, g);
+    let s = members::member(l, ix, &steps::literal(formula::literal_kind(1), k), n, g);
     if !steps::is_done(s) {
         return s;
     }

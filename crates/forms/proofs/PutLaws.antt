@@ -8,10 +8,10 @@ use mathlib.Core.Bool.{Bool, true, false}
 use mathlib.Core.List.{List, [], _∷_, _++_}
 use lib.ListN.{length, getD, set, drop, replicate, replicate-append-replicate, length-append, drop-of-length-le}
 use lib.Seq.{sets, drop-cons}
-use Rattle.formula.specs.Formula.{at}
 use Rattle.formula.specs.Bytes.{dimWidth, dimBytes, encodeFace}
 use Rattle.formula.specs.Answers.{pick, dimSpace}
-use Rattle.clauses.specs.Normal.{endBy, literal, conjunction}
+use Rattle.formula.proofs.Nodes.{literal-kind}
+use Rattle.clauses.specs.Normal.{literal, conjunction}
 use Rattle.clauses.specs.Shape.{All, each}
 use Rattle.clauses.specs.Words.{bits, select, count}
 use Rattle.clauses.specs.declared.Clause.{Clause as Bits}
@@ -43,19 +43,15 @@ times-end b {out} {out′} {to} h k w = subst (λ (n : ℕ). Wrote out to (repli
 
 -- ---- a literal
 
-kind-bytes : (r n : ℕ) → r < 2 → encodeFace (at (endBy r) n) ≡ (2 + r) ∷ dimBytes n
-unfolding encodeFace
-kind-bytes zero n h = refl
-kind-bytes (suc zero) n h = refl
-kind-bytes (suc (suc r)) n h = absurd (omega arith)
+-- b is the kind byte of a literal at the side of the number k.
+module _ (k : ℕ) {b : ℕ} (e : b ≡ 2 + k % 2) where
+  pub literal-bytes : encodeFace (literal k) ≡ b ∷ dimBytes (k / 2)
+  unfolding literal
+  literal-bytes = literal-kind (omega arith) e (k / 2)
 
-pub literal-bytes : (k : ℕ) → encodeFace (literal k) ≡ (2 + k % 2) ∷ dimBytes (k / 2)
-unfolding literal
-literal-bytes k = kind-bytes (k % 2) (k / 2) (omega arith)
-
-pub literal-wrote : (k : ℕ) {out out′ : List ℕ} {to : ℕ} → out′ ≡ sets (set out to (2 + k % 2)) (to + 1) (dimBytes (k / 2)) → Wrote out to (encodeFace (literal k)) (to + 1 + dimWidth) out′
-literal-wrote k {out} {to = to} e =
-    wrote-as (sym (literal-bytes k)) (record { next = omega arith; stored = e ∙ ap (λ (i : ℕ). sets (set out to (2 + k % 2)) i (dimBytes (k / 2))) (add-one to) })
+  pub literal-wrote : {out out′ : List ℕ} {to : ℕ} → out′ ≡ sets (set out to b) (to + 1) (dimBytes (k / 2)) → Wrote out to (encodeFace (literal k)) (to + 1 + dimWidth) out′
+  literal-wrote {out} {to = to} w =
+      wrote-as (sym literal-bytes) (record { next = omega arith; stored = w ∙ ap (λ (i : ℕ). sets (set out to b) i (dimBytes (k / 2))) (add-one to) })
 
 -- ---- the literals of a clause
 

@@ -40,7 +40,7 @@ fn put_literal(k: usize, out: &mut [u8], to: usize) -> usize
     requires { ⌜ to + length (encodeFace (literal k)) ≤ length (now out) ⌝ }
     ensures { λ r. ⌜ Wrote (now (out .entry)) to (encodeFace (literal k)) r (now (out .exit)) ⌝ }
 {
-    out[to] = 2 + (k % 2) as u8;
+    out[to] = formula::literal_kind((k % 2) as u8);
     formula::put_dim(out, to + 1, k / 2);
     to + 1 + formula::DIM
 }

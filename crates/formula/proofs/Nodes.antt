@@ -1,16 +1,23 @@
 -- What a kind byte says of the formulas that begin with it, and induction over the formulas of a sort by their kind bytes.
 use Prim.Native.Nat.{ℕ, zero, suc, _+_, _-_, _*_, _≤_, max}
 use native.Mathlib.Omega.{arith}
-use mathlib.Core.Path.{_≡_, refl, subst, ap}
+use mathlib.Core.Path.{_≡_, refl, sym, subst, ap}
 use mathlib.Core.Bool.{Bool, true, false}
 use mathlib.Core.List.{List, [], _∷_, _++_}
 use lib.Dec.{ltb}
 use lib.ListN.{length, length-append}
 use borrow.Author.Tests.{ltb-false}
-use Rattle.formula.specs.Formula.{lo, hi, Face, ff, ft, at, fand, for, Interval, i0, i1, dim, neg, meet, join}
+use Rattle.formula.specs.Formula.{lo, hi, endOf, Face, ff, ft, at, fand, for, Interval, i0, i1, dim, neg, meet, join}
 use Rattle.formula.specs.Bytes.{Tree, dimBytes, encode, encodeFace, encodeInterval, Node, leaf, lit, one, two, bad, faceNode, from16, intervalNode, nodeOf, nodes, nodesFace, nodesInterval, bound, boundFace, boundInterval}
 use Rattle.formula.specs.declared.Sort.{Sort}
 use Rattle.formula.specs.declared.Sort.the-variants.{Faces, Intervals}
+
+-- 2 plus the side is the kind byte of a literal.
+pub literal-kind : {side b : ℕ} → side ≤ 1 → b ≡ 2 + side → (n : ℕ) → encodeFace (at (endOf side) n) ≡ b ∷ dimBytes n
+unfolding encodeFace
+literal-kind {side = zero} h e n = ap (λ (k : ℕ). k ∷ dimBytes n) (sym e)
+literal-kind {side = suc zero} h e n = ap (λ (k : ℕ). k ∷ dimBytes n) (sym e)
+literal-kind {side = suc (suc s)} h e n = absurd (omega arith)
 
 -- The bytes, the node count and the bound of a formula that begins with the byte b.
 pub record Made (s : Sort) (t : Tree s) (l : List ℕ) (n d : ℕ) : Type 0 where

@@ -1,6 +1,6 @@
 -- Face formulas and interval expressions, and what they mean at a three-valued assignment
 -- (document 01, "Formulas and their meaning"; the face lattice of Cohen, Coquand, Huber and Mörtberg).
-use Prim.Native.Nat.{ℕ, pred, suc, compare, Ordering, Ordering·lt, Ordering·eq, Ordering·gt}
+use Prim.Native.Nat.{ℕ, pred, zero, suc, compare, Ordering, Ordering·lt, Ordering·eq, Ordering·gt}
 use mathlib.Core.Path.{_≡_}
 use mathlib.Core.Bool.{Bool, true, false, _&&_, _||_}
 
@@ -13,6 +13,11 @@ pub data End : Type 0 where
 abbrev pub other : End → End
 other lo = hi
 other hi = lo
+
+-- The end that a side's number names: 0 zero, any other one.
+abbrev pub endOf : ℕ → End
+endOf zero = lo
+endOf (suc n) = hi
 
 -- A face formula: at0 n is `at lo n`, at1 n is `at hi n`.
 pub data Face : Type 0 where

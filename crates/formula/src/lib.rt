@@ -9,6 +9,7 @@ pub use bytes::same;
 pub use node::DIM;
 pub use node::dim_at;
 pub use node::kind_of;
+pub use node::literal_kind;
 pub use node::put_dim;
 use refusals::Refusal;
 pub use walk::formula_at;

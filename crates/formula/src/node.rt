@@ -59,6 +59,14 @@ fn interval_kind(b: u8) -> Kind
     Kind::Unknown
 }
 
+// The kind byte of a literal on a side, 0 for zero and 1 for one: at0 and at1 follow each other, so no branch is needed.
+pub fn literal_kind(side: u8) -> u8
+    requires { ⌜ side ≤ 1 ⌝ }
+    ensures { λ r. ⌜ r ≡ 2 + side ⌝ }
+{
+    2 + side
+}
+
 // The dimension whose field stands at `at`.
 pub fn dim_at(s: &[u8], at: usize) -> usize
     requires { ⌜ at + dimWidth ≤ length (now s) ⌝ }

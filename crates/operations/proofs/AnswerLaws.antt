@@ -9,7 +9,7 @@ use lib.Dec.{leb, eqb}
 use lib.ListN.{length, take, drop, replicate, length-replicate}
 use lib.Seq.{length-sets, sets-eq, take-at}
 use borrow.Author.Tests.{le-leb, lt-leb}
-use Rattle.formula.specs.Formula.{End, lo, hi, Face, ff, Interval, i0}
+use Rattle.formula.specs.Formula.{End, lo, hi, endOf, Face, ff, Interval, i0}
 use Rattle.formula.specs.Operations.{boundary, forall, Op, shift, subst as substitute, transform}
 use Rattle.refusals.specs.declared.Refusal.{Refusal}
 use Rattle.refusals.specs.declared.Refusal.the-variants.{LargeResult, ShortOutput}
@@ -17,7 +17,7 @@ use Rattle.refusals.specs.Refusals.{Result, refused, done, map, ofOne, ofTwo}
 use Rattle.formula.specs.Bytes.{Tree, encode, encodeFace, encodeInterval, nodesFace, nodesInterval, boundFace, boundInterval}
 use Rattle.formula.specs.Answers.{pick, sizeOf, keeps, saidSized, kept, operand}
 use Rattle.operations.specs.Results.{limited, foralled, boundaried, transformed, Answered, AnsweredBoth}
-use Rattle.passes.specs.Rewriting.{Token, tokens, tokensInterval, tokensOf, weighs, weightOf, zeroSize, plainSize, Small, spell, imageOf, Wrote, Rewritable, sides, endOf, Sided, plain, literal}
+use Rattle.passes.specs.Rewriting.{Token, tokens, tokensInterval, tokensOf, weighs, weightOf, zeroSize, plainSize, Small, spell, imageOf, Wrote, Rewritable, sides, Sided, plain, literal}
 use Rattle.operations.specs.Fitting.{resizedBy, hitSize, besideRefused, keptBytes, Fitting}
 use Rattle.formula.specs.declared.Sort.{Sort}
 use Rattle.formula.specs.declared.Sort.the-variants.{Faces, Intervals}

@@ -7,11 +7,11 @@ use mathlib.Core.Path.{_≡_, refl, sym, ap, ap₂, _∙_, subst}
 use mathlib.Core.List.{List, [], _∷_, _++_, append-assoc, append-nil}
 use lib.ListN.{length, getD, set, length-set, replicate}
 use lib.Seq.{getD-set-same, getD-set-other}
-use Rattle.formula.specs.Formula.{End, lo, hi, other, Interval, i0, i1, dim, neg, meet, join}
+use Rattle.formula.specs.Formula.{End, lo, hi, other, endOf, Interval, i0, i1, dim, neg, meet, join}
 use Rattle.formula.specs.Operations.{boundary}
 use Rattle.formula.specs.Bytes.{dimBytes, encodeFace, nodeOf}
 use Rattle.formula.specs.Answers.{dimSpace, kindOf, treeOf, stepOf}
-use Rattle.passes.specs.Rewriting.{Whole, Token, plain, tokensInterval, tokensOf, Wrote, bit, plainSide, sideBytes, pushKind, pushed, sides, endOf, Sided}
+use Rattle.passes.specs.Rewriting.{Whole, Token, plain, tokensInterval, tokensOf, Wrote, bit, plainSide, sideBytes, pushKind, pushed, sides, Sided}
 use Rattle.passes.specs.Stepping.{kindOver, tokenOver, DimOver, placeBy, stackOf, Bits, pendingBy, Pushed}
 use Rattle.formula.specs.declared.Sort.the-variants.{Intervals}
 use Rattle.formula.specs.declared.Kind.{Kind}
@@ -19,6 +19,7 @@ use Rattle.formula.specs.declared.Kind.the-variants.{Nullary, Literal, Unary, B
 use Rattle.formula.specs.declared.Place.{Place}
 use Rattle.formula.specs.declared.Advance.{Advance}
 use Rattle.formula.specs.declared.Advance.the-variants.{Leaf, Lit, One, Two, Stuck}
+use Rattle.formula.proofs.Nodes.{literal-kind}
 use Rattle.passes.proofs.TokenLaws.{rowTokens, Rest, Stepped, rest-start, row-start, rest-end, rest-few, rest-step}
 use Rattle.passes.proofs.PassLaws.{Writing, writing-start, writing-length, writing-room, writing-more, writing-end}
 
@@ -125,8 +126,8 @@ sides-whole r e =
 pub side-plain : (e b : ℕ) {x y : Advance} → x ≡ y → tokenOver b y ≡ plain b → kindOf Intervals b ≡ kindOver x → sideBytes e (tokenOver b x) ≡ plainSide e (kindOver y) b
 side-plain e b i t k = ap (λ (z : Advance). sideBytes e (tokenOver b z)) i ∙ ap (sideBytes e) t ∙ ap (λ (z : Kind). plainSide e z b) (k ∙ ap kindOver i)
 
-pub side-literal : (e b : ℕ) {x : Advance} {q : Place} {n : ℕ} → x ≡ Lit q n → sideBytes e (tokenOver b x) ≡ (2 + e) ∷ dimBytes n
-side-literal e b i = ap (λ (z : Advance). sideBytes e (tokenOver b z)) i
+pub side-literal : (e b : ℕ) {x : Advance} {q : Place} {n k : ℕ} → x ≡ Lit q n → e ≤ 1 → k ≡ 2 + e → sideBytes e (tokenOver b x) ≡ k ∷ dimBytes n
+side-literal e b {n = n} i h j = ap (λ (z : Advance). sideBytes e (tokenOver b z)) i ∙ literal-kind h j n
 
 -- what a token does to the stack is what its kind does
 pushed-over : (b : ℕ) (x : Advance) → kindOf Intervals b ≡ kindOver x → (e : End) (es : List End) → pushed (tokenOver b x) e es ≡ pushKind (kindOver x) e es

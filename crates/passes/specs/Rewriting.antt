@@ -5,8 +5,8 @@ use mathlib.Core.List.{List, [], _∷_, _++_}
 use lib.Dec.{eqb}
 use lib.ListN.{length, getD}
 use lib.Seq.{sets}
-use Rattle.formula.specs.Formula.{End, lo, hi, other, Face, ff, ft, at, fand, for, Interval, i0, i1, dim, neg, meet, join, beside, raised}
-use Rattle.formula.specs.Bytes.{Tree, dimWidth, dimBytes, encode}
+use Rattle.formula.specs.Formula.{End, lo, hi, other, endOf, Face, ff, ft, at, fand, for, Interval, i0, i1, dim, neg, meet, join, beside, raised}
+use Rattle.formula.specs.Bytes.{Tree, dimWidth, dimBytes, encodeFace, encode}
 use Rattle.formula.specs.Answers.{pick, dimSpace, kindOf, treeOf}
 use Rattle.formula.specs.declared.Sort.{Sort}
 use Rattle.formula.specs.declared.Sort.the-variants.{Faces, Intervals}
@@ -145,7 +145,7 @@ plainSide e Unknown b = []
 
 abbrev pub sideBytes : ℕ → Token → List ℕ
 sideBytes e (plain b) = plainSide e (kindOf Intervals b) b
-sideBytes e (literal b n) = (2 + e) ∷ dimBytes n
+sideBytes e (literal b n) = encodeFace (at (endOf e) n)
 
 abbrev pub pushKind : Kind → End → List End → List End
 pushKind Nullary e es = es
@@ -162,11 +162,6 @@ unfoldable pub sides : List Token → List End → List ℕ
 sides [] es = []
 sides (t ∷ ts) [] = []
 sides (t ∷ ts) (e ∷ es) = sideBytes (bit e) t ++ sides ts (pushed t e es)
-
--- an end as a byte
-abbrev pub endOf : ℕ → End
-endOf zero = lo
-endOf (suc n) = hi
 
 pub record Sided (l : List ℕ) (e n : ℕ) : Type 0 where
   pub whole : Whole Intervals l

@@ -4,7 +4,7 @@ use Prim.Native.Nat.{ℕ, zero, suc, _+_, _-_, _≤_, _<_}
 use mathlib.Core.Path.{_≡_}
 use mathlib.Core.List.{List, [], _∷_}
 use lib.ListN.{length, getD}
-use Rattle.formula.specs.Formula.{End}
+use Rattle.formula.specs.Formula.{End, endOf}
 use Rattle.formula.specs.Answers.{dimSpace}
 use Rattle.formula.specs.declared.Size.{Size}
 use Rattle.formula.specs.declared.Kind.{Kind}
@@ -12,7 +12,7 @@ use Rattle.formula.specs.declared.Kind.the-variants.{Nullary, Literal, Unary, B
 use Rattle.formula.specs.declared.Place.{Place}
 use Rattle.formula.specs.declared.Advance.{Advance}
 use Rattle.formula.specs.declared.Advance.the-variants.{Leaf, Lit, One, Two, Stuck}
-use Rattle.passes.specs.Rewriting.{Token, plain, literal, movedTo, plainWeight, movedWeight, endOf, pushKind}
+use Rattle.passes.specs.Rewriting.{Token, plain, literal, movedTo, plainWeight, movedWeight, pushKind}
 use Rattle.passes.specs.declared.Rule.{Rule}
 
 -- the kind of node that a step goes over

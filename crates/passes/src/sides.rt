@@ -10,8 +10,9 @@ ghost use mathlib.Core.List.{[], _∷_};
 ghost use Prim.Native.Nat.{_+_, _-_, _≤_, _<_};
 ghost use lib.Dec.{eqb};
 ghost use lib.ListN.{length, getD};
+ghost use Rattle.formula.specs.Formula.{endOf};
 ghost use Rattle.formula.specs.Answers.{pick, kindOf};
-ghost use Rattle.passes.specs.Rewriting.{sideBytes, tokensOf, sides, endOf, Wrote, Sided};
+ghost use Rattle.passes.specs.Rewriting.{sideBytes, tokensOf, sides, Wrote, Sided};
 ghost use Rattle.passes.specs.Stepping.{kindOver, tokenOver, DimOver, Pushed};
 
 // The side e of i0 or i1: ft where the interval is that end, else ff.
@@ -44,7 +45,7 @@ fn side_out(b: u8, x: Advance, e: u8, out: &mut [u8], o: usize) -> usize
 {
     match x {
         Advance::Leaf(_) => rewriting::byte_out(leaf_side(b, e), out, o),
-        Advance::Lit(_, n) => rewriting::bytes_out(2 + e, n, out, o),
+        Advance::Lit(_, n) => rewriting::bytes_out(formula::literal_kind(e), n, out, o),
         Advance::One(_) => o,
         Advance::Two(_) => rewriting::byte_out(pair_side(b, e), out, o),
         Advance::Stuck => o,

@@ -17,8 +17,8 @@ returns-2 c = compound-free (c .before .before .before .before .before .pre .0) 
 dim-at-requires : tie.Need-dim-at-requires
 dim-at-requires c κs = omega (arith, opposite (c .before .before .before .before .before .pre .0) refl (c .before .if1 .left) (c .if2 .left) .long)
 
-sub-literal : tie.Need-sub-literal
-sub-literal c = search needs
+literal-kind-requires : tie.Need-literal-kind-requires
+literal-kind-requires c κs = search needs
 
 literal-requires : tie.Need-literal-requires
 literal-requires c κs = search needs
@@ -27,13 +27,13 @@ slice-aggregate-has : tie.Need-slice-aggregate-has
 slice-aggregate-has c = search needs
 
 has-requires : tie.Need-has-requires
-has-requires c κs = (opposite-known (opposite (c .before .before .before .before .before .before .before .before .pre .0) refl (c .before .before .before .before .if1 .left) (c .before .before .before .if2 .left)) (c .before .literal .ensures) (c .before .before .dim-at .ensures .0), c .before .before .before .before .before .before .before .before .pre .1)
+has-requires c κs = (opposite-known (opposite (c .before .before .before .before .before .before .before .before .before .pre .0) refl (c .before .before .before .before .before .if1 .left) (c .before .before .before .before .if2 .left)) (c .before .before .literal-kind .ensures) (c .before .literal .ensures) (c .before .before .before .dim-at .ensures .0), c .before .before .before .before .before .before .before .before .before .pre .1)
 
 returns-3 : tie.Need-returns-3
-returns-3 c = opposite-clash (opposite (c .before .before .before .before .before .before .before .before .before .before .pre .0) refl (c .before .before .before .before .before .before .if1 .left) (c .before .before .before .before .before .if2 .left)) (c .before .before .before .literal .ensures) (c .before .before .before .before .dim-at .ensures .0) _ (c .before .has .ensures) (c .if3 .taken)
+returns-3 c = opposite-clash (opposite (c .before .before .before .before .before .before .before .before .before .before .before .pre .0) refl (c .before .before .before .before .before .before .before .if1 .left) (c .before .before .before .before .before .before .if2 .left)) (c .before .before .before .before .literal-kind .ensures) (c .before .before .before .literal .ensures) (c .before .before .before .before .before .dim-at .ensures .0) _ (c .before .has .ensures) (c .if3 .taken)
 
 returns-4 : tie.Need-returns-4
-returns-4 c = opposite-free (opposite (c .before .before .before .before .before .before .before .before .before .before .pre .0) refl (c .before .before .before .before .before .before .if1 .left) (c .before .before .before .before .before .if2 .left)) (c .before .before .before .literal .ensures) (c .before .before .before .before .dim-at .ensures .0) _ (c .before .has .ensures) (c .if3 .left)
+returns-4 c = opposite-free (opposite (c .before .before .before .before .before .before .before .before .before .before .before .pre .0) refl (c .before .before .before .before .before .before .before .if1 .left) (c .before .before .before .before .before .before .if2 .left)) (c .before .before .before .before .literal-kind .ensures) (c .before .before .before .literal .ensures) (c .before .before .before .before .before .dim-at .ensures .0) _ (c .before .has .ensures) (c .if3 .left)
 
 pub opposed-spec : {M : Type 1} → statement M
 opposed-spec =
@@ -43,7 +43,7 @@ opposed-spec =
     returns
     returns-2
     dim-at-requires
-    sub-literal
+    literal-kind-requires
     literal-requires
     slice-aggregate-has
     has-requires

@@ -22,11 +22,11 @@ byte-out-requires c κs = let a = c .before .before .before .before .before .arg
 enum-known-x : tie.Need-enum-known-x
 enum-known-x c = search needs
 
-add-bytes-out : tie.Need-add-bytes-out
-add-bytes-out c = search needs
+literal-kind-requires : tie.Need-literal-kind-requires
+literal-kind-requires c κs = search needs
 
 bytes-out-requires : tie.Need-bytes-out-requires
-bytes-out-requires c κs = let a = c .before .before .before .before .before .args in (subst DimOver (c .before .before .x .given .1) (c .before .before .before .before .before .pre .2), omega (arith, ap length (side-literal (a .e) (a .b) (c .before .before .x .given .1)), c .before .before .before .before .before .pre .3))
+bytes-out-requires c κs = let a = c .before .before .before .before .before .before .args in (subst DimOver (c .before .before .before .x .given .1) (c .before .before .before .before .before .before .pre .2), omega (arith, ap length (side-literal (a .e) (a .b) (c .before .before .before .x .given .1) (c .before .before .before .before .before .before .pre .0) (c .before .literal-kind .ensures)), c .before .before .before .before .before .before .pre .3))
 
 enum-told-2 : tie.Need-enum-told-2
 enum-told-2 c = search needs
@@ -53,7 +53,7 @@ same-length-2 : tie.Need-same-length-2
 same-length-2 c = search needs
 
 returns-2 : tie.Need-returns-2
-returns-2 c = let a = c .before .before .before .before .before .before .before .before .args in wrote-as (sym (side-literal (a .e) (a .b) (c .before .before .before .before .before .x .given .1))) (c .before .before .bytes-out .ensures)
+returns-2 c = let a = c .before .before .before .before .before .before .before .before .before .args in wrote-as (sym (side-literal (a .e) (a .b) (c .before .before .before .before .before .before .x .given .1) (c .before .before .before .before .before .before .before .before .before .pre .0) (c .before .before .before .before .literal-kind .ensures))) (c .before .before .bytes-out .ensures)
 
 returns-3 : tie.Need-returns-3
 returns-3 c = let a = c .before .before .before .args in wrote-as (sym (side-plain (a .e) (a .b) (c .enum-told2 .given .1) refl (c .before .before .before .pre .1))) (wrote-none (a .out .now) (a .o))
@@ -75,7 +75,7 @@ side-out-spec =
     leaf-side-requires
     byte-out-requires
     enum-known-x
-    add-bytes-out
+    literal-kind-requires
     bytes-out-requires
     enum-told-2
     enum-told-3
