@@ -88,7 +88,7 @@ literal-is side k h i j e = record { bytes = e ∙ sym (literal-kind i j k); few
 
 -- The opposite of a literal of kind byte b, whose side is b - 2 and the other one 3 - b.
 pub record Opposite (x : Face) (l : List ℕ) (b : ℕ) : Type 0 where
-  pub side : 2 ≤ b
+  pub least : 2 ≤ b
   pub long : length l ≡ 2
   pub low : getD l 1 0 < 255
   pub says : (G : List Face) → clashOf G x ≡ provided (has (at (endOf (3 - b)) (getD l 1 0)) G) (by-clash (getD l 1 0))
@@ -100,7 +100,7 @@ literal ft l w h i = absurd (omega arith)
 literal (at lo n) l w h i =
     let e : getD l 1 0 ≡ n = ap (λ (m : List ℕ). getD m 1 0) (w .bytes) in
     record {
-      side = h;
+      least = h;
       long = ap length (w .bytes);
       low = omega (arith, e, w .low);
       says = λ G. ap (λ (k : ℕ). provided (has (at hi k) G) (by-clash k)) (sym e);
@@ -108,7 +108,7 @@ literal (at lo n) l w h i =
 literal (at hi n) l w h i =
     let e : getD l 1 0 ≡ n = ap (λ (m : List ℕ). getD m 1 0) (w .bytes) in
     record {
-      side = h;
+      least = h;
       long = ap length (w .bytes);
       low = omega (arith, e, w .low);
       says = λ G. ap (λ (k : ℕ). provided (has (at lo k) G) (by-clash k)) (sym e);
@@ -123,7 +123,7 @@ opposite {x} {l} {b} w e h i =
 
 module _ {x : Face} {l : List ℕ} {b : ℕ} (o : Opposite x l b) {c k : ℕ} (w : c ≡ 2 + (3 - b)) {m : List ℕ} (e : m ≡ c ∷ dimBytes k) (j : k ≡ getD l 1 0) where
   is : Is Faces (at (endOf (3 - b)) k) m
-  is = literal-is (3 - b) k (omega (arith, j, o .low)) (omega (arith, o .side)) w e
+  is = literal-is (3 - b) k (omega (arith, j, o .low)) (omega (arith, o .least)) w e
 
   pub opposite-known : Known Faces m
   opposite-known = known is

@@ -34,7 +34,7 @@ pub fn has(f: &[u8], n: usize, g: &[u8]) -> bool
     false
 }
 
-// The clash of the face x, where it is a literal whose opposite is in the context. Its side is b - 2, the other one 3 - b.
+// The clash of the face x, where it is a literal whose opposite is in the context. The side of kind byte b is b - 2, the other one 3 - b.
 fn opposed(x: &[u8], n: usize, g: &[u8]) -> Clash
     requires { ⌜ Known Faces (now x) × Context n (now g) ⌝ }
     ensures { λ r. ⌜ clashBy r ≡ clashOf (contextOf n (now (g .entry))) (treeOf Faces (now (x .entry))) ⌝ }

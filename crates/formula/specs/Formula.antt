@@ -14,7 +14,7 @@ abbrev pub other : End → End
 other lo = hi
 other hi = lo
 
--- The end that a side's number names: 0 zero, any other one.
+-- The end that a side's number names: 0 is zero, any other number one.
 abbrev pub endOf : ℕ → End
 endOf zero = lo
 endOf (suc n) = hi

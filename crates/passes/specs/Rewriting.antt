@@ -147,12 +147,17 @@ abbrev pub sideBytes : ℕ → Token → List ℕ
 sideBytes e (plain b) = plainSide e (kindOf Intervals b) b
 sideBytes e (literal b n) = encodeFace (at (endOf e) n)
 
+-- a stack behind a node of this kind, whose own entry is off it: x for its one part, y for each of its two
+abbrev pub stacked : {A : Type 0} → Kind → A → A → List A → List A
+stacked Nullary x y l = l
+stacked Literal x y l = l
+stacked Unary x y l = x ∷ l
+stacked Binary x y l = y ∷ y ∷ l
+stacked Unknown x y l = l
+
+-- neg turns the end round
 abbrev pub pushKind : Kind → End → List End → List End
-pushKind Nullary e es = es
-pushKind Literal e es = es
-pushKind Unary e es = other e ∷ es
-pushKind Binary e es = e ∷ e ∷ es
-pushKind Unknown e es = es
+pushKind k e es = stacked k (other e) e es
 
 abbrev pub pushed : Token → End → List End → List End
 pushed (plain b) e es = pushKind (kindOf Intervals b) e es

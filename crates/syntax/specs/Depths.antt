@@ -9,8 +9,7 @@ use Rattle.formula.specs.Answers.{sizeOf, treeOf}
 use Rattle.formula.specs.declared.Sort.{Sort}
 use Rattle.formula.specs.declared.Size.{Size}
 use Rattle.formula.specs.declared.Kind.{Kind}
-use Rattle.formula.specs.declared.Kind.the-variants.{Nullary, Literal, Unary, Binary, Unknown}
-use Rattle.passes.specs.Rewriting.{Whole}
+use Rattle.passes.specs.Rewriting.{Whole, stacked}
 
 -- an operand that is kept, and its size
 pub record Kept (s : Sort) (l : List ℕ) (z : Size) : Type 0 where
@@ -19,11 +18,7 @@ pub record Kept (s : Sort) (l : List ℕ) (z : Size) : Type 0 where
 
 -- the depths of what is to come behind a node of this kind at depth d, the next one first, where ds come behind its formula
 abbrev pub onward : Kind → ℕ → List ℕ → List ℕ
-onward Nullary d ds = ds
-onward Literal d ds = ds
-onward Unary d ds = suc d ∷ ds
-onward Binary d ds = suc d ∷ suc d ∷ ds
-onward Unknown d ds = ds
+onward k d ds = stacked k (suc d) (suc d) ds
 
 -- the word of a stack of bits, the lowest node's first, with a one above all of them
 unfoldable pub word : List Bool → ℕ
