@@ -1,7 +1,7 @@
 //! The library's own functions: one for each C function, slices in, its number out.
 //!
-//! Every byte string may be lent. Refusal q is answered as -q (10 of the desk with its step, those of the guarded search
-//! with its counter: [`refusal_of`]); the functions that end in `_of` take answers apart. `include/linefeijoa.h` says of each function what is answered,
+//! Every byte string may be lent. Refusal q is answered as -q (10 of the desk with its step, [`refusal_of`]); the
+//! functions that end in `_of` take answers apart. `include/linefeijoa.h` says of each function what is answered,
 //! refused and left. The types of this crate stand on these functions; with them alone every refusal can be met:
 //!
 //! ```
@@ -19,13 +19,11 @@
 //! # Ok::<(), Refusal>(())
 //! ```
 pub use crate::raw::{
-    boundary, counterexample, endpoint, entails, face, facesteps, fence_face, fence_interval, forall, guarded_cover,
-    guarded_entails, interval, kind, normal, operands, read_claim, read_face, read_interval, reference, repeats,
-    rule_name, shift_face, shift_interval, step_desk, substitute_face, substitute_interval, well_formed, write_face,
-    write_interval, write_step,
+    boundary, counterexample, endpoint, entails, face, facesteps, fence_face, fence_interval, forall, interval, kind,
+    normal, operands, read_claim, read_face, read_interval, reference, repeats, rule_name, shift_face, shift_interval,
+    step_desk, substitute_face, substitute_interval, well_formed, write_face, write_interval, write_step,
 };
-use crate::limits::MAX_COUNTER;
-use crate::{Refusal, Searched, Step};
+use crate::{Refusal, Step};
 use std::ops::Range;
 
 /// The low 32 bits.
@@ -40,15 +38,14 @@ pub fn refusal_of(answer: i64) -> Option<Refusal> {
     if answer >= 0 {
         return None;
     }
-    // 1 to 15 in the lowest four bits; above them for 10 the step, for a guarded search twice its counter, else 0.
+    // 1 to 13 in the lowest four bits; for 10 the step above them, which is 0 else.
     let bits = answer.unsigned_abs();
-    let (number, above) = (bits & 15, bits >> 4);
-    let possible = match number {
-        10 => above <= LOW,
-        1..=4 | 7..=9 | 14 | 15 => above % 2 == 0 && above / 2 <= MAX_COUNTER + 1,
-        _ => above == 0,
+    let (number, step) = (bits & 15, bits >> 4);
+    let known = if step > LOW || step > 0 && number != 10 {
+        None
+    } else {
+        Refusal::numbered(number as u8, Step::new(step as u32))
     };
-    let known = if possible { Refusal::numbered(number as u8, Step::new(above as u32)) } else { None };
     Some(known.unwrap_or_else(|| panic!("no function answers {answer}")))
 }
 
@@ -71,29 +68,6 @@ pub fn step_of(answer: i64) -> Result<Step, Refusal> {
 /// Of a call with results: the step, and the length of the result in front of each output.
 pub fn made_of(answer: i64) -> Result<(Step, usize), Refusal> {
     accepted(answer).map(|n| (Step::new((n & LOW) as u32), (n >> 32) as usize))
-}
-
-/// Of [`guarded_cover`] and [`guarded_entails`]: the step with the call's own judgement or the refusal, and the counter
-/// that comes back. A counter above 2,147,483,647, which is refused, comes back as 2,147,483,648.
-///
-/// ```
-/// use linefeijoa::{Refusal, Searched, Step, bytes};
-///
-/// let mut ledger = [0; 2_048];
-/// let (no_faces, ft, ff) = ([0, 0], [1], [0]);
-/// let answer = bytes::guarded_cover(&mut ledger, &no_faces, &ft, 7);
-/// assert_eq!(answer, 8 << 20);
-/// assert_eq!(bytes::searched_of(answer), Searched { answer: Ok(Step::new(0)), work: 8 });
-///
-/// let answer = bytes::guarded_cover(&mut ledger, &no_faces, &ff, 20_000);
-/// assert_eq!(answer, -(14 + 32 * 20_001));
-/// assert_eq!(bytes::searched_of(answer), Searched { answer: Err(Refusal::BeyondSearch), work: 20_001 });
-/// ```
-pub fn searched_of(answer: i64) -> Searched {
-    match refusal_of(answer) {
-        None => Searched { answer: Ok(Step::new(answer as u32 & 0xf_ffff)), work: answer as u64 >> 20 },
-        Some(refusal) => Searched { answer: Err(refusal), work: answer.unsigned_abs() >> 5 },
-    }
 }
 
 /// Of the readers and writers, [`counterexample`], [`normal`], [`rule_name`] and [`facesteps`]: the length of what is in

@@ -1,6 +1,6 @@
 //! The ledger, and the calls that emit steps into it.
-use crate::bytes::{count_of, made_of, searched_of, step_of};
-use crate::limits::{MAX_FORMULA_BYTES, MAX_LEDGER_BYTES, MAX_NODES, MIN_LEDGER_BYTES};
+use crate::bytes::{count_of, made_of, step_of};
+use crate::limits::{MAX_FORMULA_BYTES, MAX_LEDGER_BYTES, MIN_LEDGER_BYTES};
 use crate::{AsFace, AsInterval, Claim, Face, Interval, Record, Refusal, Steps, bytes, grown};
 use std::fmt;
 
@@ -56,18 +56,6 @@ pub struct Boundary {
     pub zero: Face,
     /// The face that holds exactly where the interval is one.
     pub one: Face,
-}
-
-/// What a guarded search answered, and its counter.
-///
-/// The counter goes into the next search, so it comes back whatever the answer is.
-#[derive(Clone, Copy, PartialEq, Eq, Debug)]
-#[must_use]
-pub struct Searched {
-    /// The step of the call's own judgement, or the refusal.
-    pub answer: Result<Step, Refusal>,
-    /// The counter that went in, and the obligations opened added to it; after refusals 1 to 7 the counter that went in.
-    pub work: u64,
 }
 
 /// An end of the interval.
@@ -331,63 +319,6 @@ impl Ledger {
         self.entails(claim.d.into(), &claim.a, &claim.b)
     }
 
-    /// The step that the goal holds wherever all faces of the context do, by the guarded search. Refused by 2 and 4, by 3
-    /// where the goal, or the context in all, has more than 511 nodes, by 7, 9, 14, 15.
-    ///
-    /// It is the search of the published Rust's producer. It looks each judgement up before it tries rules, works on no
-    /// obligation deeper than 128 or with a counter above 20,000, and appends nothing to 50,000 steps or more. The
-    /// obligations that a limit refuses are counted too, so the counter may come back up to 130 above 20,000. An error
-    /// met on the way need not end the search: of a goal `(for a b)` b is tried whatever became of a. So 9 says only
-    /// that the search did not find it. A ledger that passes the [`desk`](Self::desk) passes it after the call too,
-    /// whatever is answered, and then a yes is true.
-    ///
-    /// ```
-    /// use linefeijoa::{Face, Ledger, Refusal, Searched};
-    ///
-    /// let mut ledger = Ledger::new(2_048)?;
-    /// let context = [Face::at0(0)?, Face::at1(1)?];
-    /// let goal = Face::at1(1)?.and(&Face::at0(0)?)?;
-    /// let Searched { answer, work } = ledger.guarded_cover(&context, &goal, 0);
-    /// assert_eq!((answer?.number(), work), (5, 3));
-    /// // Asked again it is looked up, which is one obligation.
-    /// let again = ledger.guarded_cover(&context, &goal, work);
-    /// assert_eq!(again, Searched { answer, work: 4 });
-    ///
-    /// let Searched { answer, work } = ledger.guarded_cover(&context, &Face::ff(), 20_000);
-    /// assert_eq!((answer, work), (Err(Refusal::BeyondSearch), 20_001));
-    /// # Ok::<(), Refusal>(())
-    /// ```
-    pub fn guarded_cover(&mut self, context: &[Face], goal: &(impl AsFace + ?Sized), work: u64) -> Searched {
-        // Where there are more faces than nodes are allowed, the first of them are too many already.
-        let faces = &context[..context.len().min(MAX_NODES + 1)];
-        let mut bytes = (faces.len() as u16).to_le_bytes().to_vec();
-        faces.iter().for_each(|face| bytes.extend(face.as_bytes()));
-        searched(work, bytes::guarded_cover(&mut self.0, &bytes, goal.as_face(), work))
-    }
-
-    /// The step that the face a implies the face b over d, by the [guarded search](Self::guarded_cover).
-    /// Refused by 2, 3, 4, 7, by 8 where a dimension is not below d, by 9, 14, 15 where the search did not find it.
-    ///
-    /// ```
-    /// use linefeijoa::{Face, Ledger, Refusal};
-    ///
-    /// let mut ledger = Ledger::new(2_048)?;
-    /// let (a, b) = (Face::at0(0)?, Face::at0(0)?.or(&Face::at1(0)?)?);
-    /// let searched = ledger.guarded_entails(1, &a, &b, 0);
-    /// assert_eq!((searched.answer?, searched.work), (ledger.entails(1, &a, &b)?, 2));
-    /// assert_eq!(ledger.guarded_entails(1, &b, &a, 2).answer, Err(Refusal::NotImplied));
-    /// # Ok::<(), Refusal>(())
-    /// ```
-    pub fn guarded_entails(
-        &mut self,
-        d: u64,
-        a: &(impl AsFace + ?Sized),
-        b: &(impl AsFace + ?Sized),
-        work: u64,
-    ) -> Searched {
-        searched(work, bytes::guarded_entails(&mut self.0, d, a.as_face(), b.as_face(), work))
-    }
-
     /// A call with one result.
     fn made<T>(
         &mut self,
@@ -397,15 +328,6 @@ impl Ledger {
         let mut out = [0; MAX_FORMULA_BYTES];
         let (step, length) = made_of(call(&mut self.0, &mut out))?;
         Ok(Made { step, result: of(&out[..length]) })
-    }
-}
-
-/// A guarded search's answer taken apart. Refusals 1 to 7 leave the counter, however high it is.
-fn searched(work: u64, answer: i64) -> Searched {
-    let searched = searched_of(answer);
-    match searched.answer {
-        Err(refusal) if refusal.number() <= 7 => Searched { work, ..searched },
-        _ => searched,
     }
 }
 

@@ -21,8 +21,6 @@
 //! - [`Face`] and [`Interval`] own the bytes of one formula within document 01's limits; they are read and printed by the
 //!   proved reader and writer. Calls also take bytes as they come ([`AsFace`], [`AsInterval`]).
 //! - [`Claim::counterexample`] answers an [`Assignment`] at which an implication does not hold.
-//! - [`Ledger::guarded_cover`] and [`Ledger::guarded_entails`] are the published Rust's producer's own search, which is
-//!   bounded, with its counter ([`Searched`]).
 //! - [`Face::fence`] and [`Interval::fence`] say whether the published Rust's producer, whose limits are narrower, takes a
 //!   formula.
 //! - [`Record`] is a step looked at: [`Rule`], references, judgement. [`Ledger::steps`] goes over all of them.
@@ -58,7 +56,7 @@ mod rule;
 pub use assignment::{Assignment, Value};
 pub use claim::Claim;
 pub use formula::{AsFace, AsInterval, Face, Interval};
-pub use ledger::{Boundary, End, Ledger, Made, Searched, Step};
+pub use ledger::{Boundary, End, Ledger, Made, Step};
 pub use record::{Record, Steps};
 pub use refusal::Refusal;
 pub use rule::Rule;

@@ -14,20 +14,10 @@ pub const MAX_D: u8 = 255;
 pub const MAX_PRODUCER_DIMENSION: u8 = 32;
 /// The depth of the deepest node of such a formula, the root being at depth 0.
 pub const MAX_PRODUCER_DEPTH: usize = 32;
-/// The depth of the deepest obligation that the guarded search works on, the first being at depth 0.
-pub const MAX_SEARCH_DEPTH: usize = 128;
-/// The highest counter with which it works on an obligation.
-pub const MAX_SEARCH_WORK: u64 = 20_000;
-/// To a ledger with so many steps it appends none.
-pub const MAX_SEARCH_STEPS: usize = 50_000;
-/// The highest counter that it is given.
-pub const MAX_COUNTER: u64 = 2_147_483_647;
 /// Clauses of a list on the way to a normal form.
 pub const MAX_CLAUSES: usize = 256;
 /// Bytes of a formula, proved; the longest formulas have 767.
 pub const MAX_FORMULA_BYTES: usize = 1_022;
-/// Bytes of a context: two of its count, and 511 literals.
-pub const MAX_CONTEXT_BYTES: usize = 1_024;
 /// Bytes of a formula's text, proved; the longest have 263,928.
 pub const MAX_TEXT_BYTES: usize = 527_352;
 /// Bytes of a step's line, proved.

@@ -89,25 +89,6 @@ unsafe extern "C" {
         b: *const u8,
         b_len: usize,
     ) -> i64;
-    fn lf_guarded_cover(
-        ledger: *mut u8,
-        ledger_len: usize,
-        context: *const u8,
-        context_len: usize,
-        goal: *const u8,
-        goal_len: usize,
-        work: u64,
-    ) -> i64;
-    fn lf_guarded_entails(
-        ledger: *mut u8,
-        ledger_len: usize,
-        d: u64,
-        a: *const u8,
-        a_len: usize,
-        b: *const u8,
-        b_len: usize,
-        work: u64,
-    ) -> i64;
     fn lf_counterexample(
         d: u64,
         a: *const u8,
@@ -249,30 +230,6 @@ pub fn substitute_interval(ledger: &mut [u8], t: &[u8], k: u64, r: &[u8], out: &
 #[inline]
 pub fn entails(ledger: &mut [u8], d: u64, a: &[u8], b: &[u8]) -> i64 {
     unsafe { lf_entails(ledger.as_mut_ptr(), ledger.len(), d, a.as_ptr(), a.len(), b.as_ptr(), b.len()) }
-}
-
-/// The guarded search for a goal in a context: the step, and 2^20 times the counter that comes back. Refused by 1, 2, 3, 4,
-/// 7, 9, 14, 15, each as -(q + 32 times the counter that comes back).
-#[inline]
-pub fn guarded_cover(ledger: &mut [u8], context: &[u8], goal: &[u8], work: u64) -> i64 {
-    unsafe {
-        lf_guarded_cover(
-            ledger.as_mut_ptr(),
-            ledger.len(),
-            context.as_ptr(),
-            context.len(),
-            goal.as_ptr(),
-            goal.len(),
-            work,
-        )
-    }
-}
-
-/// The step that the face a implies the face b over d, by the guarded search, and its counter likewise.
-/// Refused by 1, 2, 3, 4, 7, 8, 9, 14, 15, likewise.
-#[inline]
-pub fn guarded_entails(ledger: &mut [u8], d: u64, a: &[u8], b: &[u8], work: u64) -> i64 {
-    unsafe { lf_guarded_entails(ledger.as_mut_ptr(), ledger.len(), d, a.as_ptr(), a.len(), b.as_ptr(), b.len(), work) }
 }
 
 /// d, the length of an assignment that satisfies the face a and not the face b, which is in front of the output: a byte

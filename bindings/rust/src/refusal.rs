@@ -5,9 +5,8 @@ use std::fmt;
 
 /// Why something was refused: document 01's number, what it means, what to do.
 ///
-/// All but [`NotBelow`](Self::NotBelow), [`NotImplied`](Self::NotImplied), [`BeyondSearch`](Self::BeyondSearch) and
-/// [`TooManySteps`](Self::TooManySteps) leave every lent byte unchanged. These four leave in the ledger, where one is lent,
-/// the steps that were emitted before the no.
+/// All but [`NotBelow`](Self::NotBelow) and [`NotImplied`](Self::NotImplied) leave every lent byte unchanged. These two
+/// leave in the ledger, where one is lent, the steps that were emitted before the no.
 ///
 /// ```
 /// use linefeijoa::{Ledger, Refusal};
@@ -25,14 +24,14 @@ pub enum Refusal {
     /// 1: the ledger is not 4 to 1,048,576 bytes long, or it is not well formed;
     /// start from zero bytes, or from the bytes that a call left.
     IllFormedLedger,
-    /// 2: an operand is not exactly one formula of its sort, or one context;
-    /// hand over the bytes of one face, or of one interval or context where that is asked for, and none behind them.
+    /// 2: an operand is not exactly one formula of its sort;
+    /// hand over the bytes of one face, or of one interval where an interval is asked for, and none behind them.
     NotAFormula,
-    /// 3: a formula, or a context in all, has more than 511 nodes;
-    /// split it and ask about its parts.
+    /// 3: a formula has more than 511 nodes;
+    /// split the formula and ask about its parts.
     TooManyNodes,
-    /// 4: a dimension or k is above 254, d is above 255, or a counter is above 2,147,483,647;
-    /// number the dimensions that are used from 0 on, and let counters begin at 0.
+    /// 4: a dimension or k is above 254, or d is above 255;
+    /// number the dimensions that are used from 0 on.
     LargeDimension,
     /// 5: the result would have more than 511 nodes or a dimension above 254, or a normal form takes a list of more than
     /// 256 clauses;
@@ -63,16 +62,10 @@ pub enum Refusal {
     /// 13: a dimension is above 32, or a node is more than 32 levels below the root, which the producer does not take;
     /// number the dimensions that are used from 0 on, and nest the formula less deeply or split it.
     BeyondProducer,
-    /// 14: the guarded search went deeper than 128, or its counter above 20,000;
-    /// begin with a lower counter, ask about smaller parts, or ask entails, which has no such limits.
-    BeyondSearch,
-    /// 15: the ledger has 50,000 steps or more, to which the guarded search appends none;
-    /// ask on a ledger with fewer steps, or ask entails, which has no such limit.
-    TooManySteps,
 }
 
 impl Refusal {
-    /// Document 01's number, 1 to 15.
+    /// Document 01's number, 1 to 13.
     pub fn number(self) -> u8 {
         self.words().0
     }
@@ -103,8 +96,6 @@ impl Refusal {
             Self::NotAccepted,
             Self::Implied,
             Self::BeyondProducer,
-            Self::BeyondSearch,
-            Self::TooManySteps,
         ];
         all.into_iter().find(|refusal| refusal.number() == number)
     }
@@ -119,18 +110,14 @@ impl Refusal {
             ),
             Self::NotAFormula => (
                 2,
-                "an operand is not exactly one formula of its sort, or one context",
-                "hand over the bytes of one face, or of one interval or context where that is asked for, \
+                "an operand is not exactly one formula of its sort",
+                "hand over the bytes of one face, or of one interval where an interval is asked for, \
                  and none behind them",
             ),
-            Self::TooManyNodes => {
-                (3, "a formula, or a context in all, has more than 511 nodes", "split it and ask about its parts")
+            Self::TooManyNodes => (3, "a formula has more than 511 nodes", "split the formula and ask about its parts"),
+            Self::LargeDimension => {
+                (4, "a dimension or k is above 254, or d is above 255", "number the dimensions that are used from 0 on")
             }
-            Self::LargeDimension => (
-                4,
-                "a dimension or k is above 254, d is above 255, or a counter is above 2,147,483,647",
-                "number the dimensions that are used from 0 on, and let counters begin at 0",
-            ),
             Self::LargeResult => (
                 5,
                 "the result would have more than 511 nodes or a dimension above 254, \
@@ -168,16 +155,6 @@ impl Refusal {
                 "a dimension is above 32, or a node is more than 32 levels below the root, \
                  which the producer does not take",
                 "number the dimensions that are used from 0 on, and nest the formula less deeply or split it",
-            ),
-            Self::BeyondSearch => (
-                14,
-                "the guarded search went deeper than 128, or its counter above 20,000",
-                "begin with a lower counter, ask about smaller parts, or ask entails, which has no such limits",
-            ),
-            Self::TooManySteps => (
-                15,
-                "the ledger has 50,000 steps or more, to which the guarded search appends none",
-                "ask on a ledger with fewer steps, or ask entails, which has no such limit",
             ),
         }
     }

@@ -1,4 +1,6 @@
 // The boundary judgements of an interval expression, beside the bytes of its two faces.
+#![tactic(auto)]
+
 ghost use Rattle.std.specs.Prelude.{◌≡◌, [], ◌∷◌, ◌++◌, ◌+◌, ◌≤◌, ◌<◌, length, get_or};
 ghost use Rattle.calculus.specs.Calls.{emit_boundary};
 ghost use Rattle.index.specs.Index.{Indexed};

@@ -1,4 +1,6 @@
 // The judgements that all dimensions of a formula are below d: interval and face, once over the sort.
+#![tactic(auto)]
+
 ghost use Rattle.std.specs.Prelude.{◌≡◌, [], ◌∷◌, ◌++◌, ◌≤◌, ◌<◌, length, get_or};
 ghost use Rattle.formula.specs.Formula.{dim};
 ghost use Rattle.formula.specs.Bytes.{dim_bytes};

@@ -1,10 +1,12 @@
 // Clauses of literals as bits, by value.
+#![tactic(auto)]
+
 mod words;
 
 pub use words::{below, has, join, meet, none, ones, opposites, order, single, with};
 
 // A clause: a bit for each of the literals of a face, of which there are at most 256.
-#[derive(Drop)]
+#[derive(Clone, Copy)]
 pub struct Clause {
     pub w0: u64,
     pub w1: u64,
@@ -13,7 +15,7 @@ pub struct Clause {
 }
 
 // Which of two clauses comes first.
-#[derive(Drop)]
+#[derive(Clone, Copy)]
 pub enum Comparison {
     Before,
     Same,

@@ -3,7 +3,6 @@ use Prim.Native.Nat.{ℕ, ◌+◌, ◌≤◌, ◌<◌}
 use native.Mathlib.Omega.{arith}
 use mathlib.Core.Path.{◌≡◌, refl, sym, ap, ap₂, ◌∙◌, subst}
 use mathlib.Core.Bool.{true, false}
-use mathlib.Core.Option.{Option}
 use mathlib.Core.List.{List, [], ◌∷◌, ◌++◌, append_assoc}
 use lib.ListN.{length, take}
 use lib.Seq.{sets}
@@ -13,15 +12,12 @@ use Rattle.formula.specs.Bytes.{encode_face, nodes_face, bound_face}
 use Rattle.calculus.specs.Judgement.{Step, member, cover}
 use Rattle.calculus.specs.Rules
 use Rattle.calculus.specs.Record.{little_endian, operand_bytes}
-use Rattle.calculus.specs.Emit.{emit, find}
+use Rattle.calculus.specs.Emit.{emit}
 use Rattle.calculus.specs.Calls.{emit_member}
 use Rattle.calculus.proofs.Growing.{Limited, limited-allowed}
-use Rattle.ledger.specs.Ledger.{steps_of, Led}
 use Rattle.index.specs.declared.Found.{Found}
 use Rattle.index.specs.declared.Found.TheVariants.{At, Absent}
-use Rattle.index.specs.Finding.{find_bytes, found_as}
 use Rattle.index.specs.Index.{Knows}
-use Rattle.index.proofs.SameLaws.{find-same}
 use Rattle.steps.specs.declared.Ran.{Ran}
 use Rattle.steps.specs.Running.{Book, done_by, step_by, Runs, Emits}
 use Rattle.steps.specs.Trees.{Is}
@@ -45,7 +41,7 @@ module _ {G : List Face} {g : Face} {n : ℕ} {l k : List ℕ} (w : Are G n l) (
   cover-short e = omega (arith, ap length e, context-short w, is-short a)
 
   -- The operands, written part by part.
-  pub cover-written : {c : List ℕ} → c ≡ little_endian 2 n → (z z₁ z₂ z₃ : List ℕ) → 2046 ≤ length z → z₁ ≡ sets z 0 c → z₂ ≡ sets z₁ 2 l → z₃ ≡ sets z₂ (2 + length l) k
+  pub cover-written : {c : List ℕ} → c ≡ little_endian 2 n → (z z₁ z₂ z₃ : List ℕ) → 2048 ≤ length z → z₁ ≡ sets z 0 c → z₂ ≡ sets z₁ 2 l → z₃ ≡ sets z₂ (2 + length l) k
       → (2 + length l + length k ≤ length z₃) × (take (2 + length l + length k) z₃ ≡ operand_bytes (cover G g))
   cover-written {c} e z z₁ z₂ z₃ h p q r =
       let m : 2 ≡ length c = sym (ap length e) in
@@ -56,11 +52,6 @@ module _ {G : List Face} {g : Face} {n : ℕ} {l k : List ℕ} (w : Are G n l) (
   pub cover-known : (L : List Step) (o : List ℕ) (r : Found) → operand_bytes (cover G g) ≡ o → Knows L o r → Settled L G g r
   cover-known L o (At i) e h = h G g (limited-allowed (cover G g) cover-limited) e
   cover-known L o (Absent n) e h = tt
-
-  -- The lowest step with these operands is that with the judgement.
-  pub cover-found : {b : List ℕ} → Led b → {o : List ℕ} {r : Found} → operand_bytes (cover G g) ≡ o → r ≡ found_as (find_bytes 6 o (steps_of b)) (length (steps_of b)) → r ≡ found_as (find (cover G g) (steps_of b)) (length (steps_of b))
-  cover-found {b} d e h =
-      h ∙ ap (λ (q : Option ℕ). found_as q (length (steps_of b))) (ap (λ (y : List ℕ). find_bytes 6 y (steps_of b)) (sym e) ∙ find-same (cover G g) (limited-allowed (cover G g) cover-limited) 0 (steps_of b) d.formed)
 
 pub by-member-stop : {l l₁ : Book} {r : Ran} (kind : ℕ) (f : Face) (G : List Face) (g : Face) → Runs l (emit_member f G) r l₁ → done_by r ≡ false → Runs l (cover_by kind f G g) r l₁
 by-member-stop kind f G g h d = after_stop {kind = kind} {j = cover G g} refl h d

@@ -12,14 +12,13 @@ use Rattle.formula.specs.Answers.{part_at, tree_of}
 use Rattle.formula.proofs.Nodes.{literal-kind}
 use Rattle.formula.proofs.Reading.{encode-pos}
 use Rattle.calculus.specs.Judgement.{same_face}
-use Rattle.calculus.specs.Search.{Move, by-top, by-hit, by-absurd, by-clash, by-and-left, by-or-left, by-and-right, by-or-right, stuck, ◌else◌, provided, has, clash_of, try_clash, split_of, try_left}
-use Rattle.obligations.specs.Obligations.{zeros}
+use Rattle.calculus.specs.Search.{Move, by-clash, stuck, ◌else◌, provided, has, clash_of, try_clash, split_of, try_left}
 use Rattle.steps.specs.Trees.{Is, Known}
 use Rattle.steps.proofs.TreeLaws.{tree-of, known}
 use Rattle.contexts.specs.declared.moves.Clash.{Clash}
 use Rattle.contexts.specs.declared.moves.Clash.TheVariants.{Of, Free}
 use Rattle.contexts.specs.Contexts.{Are, context_of}
-use Rattle.contexts.specs.Moves.{clash_by, starting, last_kind, compound, FirstCompound}
+use Rattle.contexts.specs.Moves.{clash_by, compound, FirstCompound}
 use Rattle.contexts.proofs.ContextLaws.{context-of, tail, first_of}
 
 -- A face in front, and another one.
@@ -59,7 +58,7 @@ constant (at hi n) G h = absurd (omega arith)
 constant (fand y z) G h = refl
 constant (for y z) G h = refl
 
-constant-free : {x : Face} {l : List ℕ} {b : ℕ} → Is Faces x l → (G : List Face) → b ≡ get_or l 0 0 → b < 2 → stuck ≡ clash_of G x
+pub constant-free : {x : Face} {l : List ℕ} {b : ℕ} → Is Faces x l → (G : List Face) → b ≡ get_or l 0 0 → b < 2 → stuck ≡ clash_of G x
 constant-free {x} w G e h = constant x G (omega (arith, first_byte w))
 
 compound-kind : (x : Face) → 3 < kind x → compound x ≡ true
@@ -78,6 +77,9 @@ compound-stuck (at lo n) G e = cc
 compound-stuck (at hi n) G e = cc
 compound-stuck (fand y z) G e = refl
 compound-stuck (for y z) G e = refl
+
+pub compound-free : {x : Face} {l : List ℕ} {b : ℕ} → Is Faces x l → (G : List Face) → b ≡ get_or l 0 0 → 3 < b → stuck ≡ clash_of G x
+compound-free {x} w G e h = compound-stuck x G (compound-kind x (omega (arith, first_byte w)))
 
 -- The bytes of a literal, by its side.
 pub literal-is : (side k : ℕ) {b : ℕ} {m : List ℕ} → k < 255 → side ≤ 1 → b ≡ 2 + side → m ≡ b ∷ dim_bytes k → Is Faces (at (end_of side) k) m
@@ -137,124 +139,28 @@ module _ {x : Face} {l : List ℕ} {b : ℕ} (o : Opposite x l b) {c k : ℕ} (w
   pub opposite-free : (G : List Face) {t : Bool} → t ≡ has (tree_of Faces m) G → t ≡ false → stuck ≡ clash_of G x
   opposite-free G h i = sym (clashes G false (sym i ∙ h))
 
--- A clash that begins with one face ------------------------------------------------------------
-
--- The clash that begins with x, where it may.
-abbrev clash_from : Bool → List Face → Face → Move
-clash_from z K x = try_clash K (starting z (x ∷ []))
-
-else-stuck : (m : Move) → (m else stuck) ≡ m
-else-stuck by-top = refl
-else-stuck by-hit = refl
-else-stuck by-absurd = refl
-else-stuck (by-clash i) = refl
-else-stuck (by-and-left b x y a) = refl
-else-stuck (by-or-left b x y a) = refl
-else-stuck (by-and-right x y) = refl
-else-stuck (by-or-right x y) = refl
-else-stuck stuck = refl
-
--- Where its kind byte is not too high, it is the clash of x.
-from_is : (z : Bool) (K : List Face) (x : Face) → kind x ≤ last_kind z → clash_from z K x ≡ clash_of K x
-unfolding try_clash zeros encode_face
-from_is false K x h = else-stuck (clash_of K x)
-from_is true K ff h = refl
-from_is true K ft h = refl
-from_is true K (at lo n) h = else-stuck (clash_of K (at lo n))
-from_is true K (at hi n) h = absurd (omega arith)
-from_is true K (fand x y) h = absurd (omega arith)
-from_is true K (for x y) h = absurd (omega arith)
-
--- Where it is, there is none.
-from-none : (z : Bool) (K : List Face) (x : Face) → last_kind z < kind x → clash_from z K x ≡ stuck
-unfolding try_clash zeros encode_face
-from-none false K x h = else-stuck (clash_of K x) ∙ sym (compound-stuck x K (compound-kind x h))
-from-none true K ff h = absurd (omega arith)
-from-none true K ft h = absurd (omega arith)
-from-none true K (at lo n) h = absurd (omega arith)
-from-none true K (at hi n) h = refl
-from-none true K (fand x y) h = refl
-from-none true K (for x y) h = refl
-
-module _ (z : Bool) {x : Face} {l : List ℕ} {b : ℕ} (w : Is Faces x l) (e : b ≡ get_or l 0 0) (K : List Face) where
-  pub from-constant : b < 2 → stuck ≡ clash_from z K x
-  from-constant h = constant-free w K e h ∙ sym (from_is z K x (omega (arith, first_byte w, low z)))
-    where
-      low : (z : Bool) → 2 ≤ last_kind z
-      low true = omega arith
-      low false = omega arith
-
-  pub from-beyond : {c : ℕ} → c ≡ last_kind z → c < b → stuck ≡ clash_from z K x
-  from-beyond i h = sym (from-none z K x (omega (arith, first_byte w)))
-
-  pub from-literal : {c : ℕ} → c ≡ last_kind z → b ≤ c → {m : Move} → m ≡ clash_of K x → m ≡ clash_from z K x
-  from-literal i h q = q ∙ sym (from_is z K x (omega (arith, first_byte w)))
-
-pub last-low : (z : Bool) {b c : ℕ} → c ≡ last_kind z → b ≤ c → b ≤ 3
-last-low true e h = omega arith
-last-low false e h = omega arith
-
 -- The first clash, by the first face.
-pub clash-none : {G : List Face} {n : ℕ} {g : List ℕ} (z : Bool) (K : List Face) → Are G n g → n ≡ 0 → stuck ≡ try_clash K (starting z G)
-unfolding try_clash zeros
-clash-none {G = []} true K w e = refl
-clash-none {G = []} false K w e = refl
-clash-none {G = x ∷ G} z K w e = absurd (omega (arith, w.count))
+pub clash-none : {G : List Face} {n : ℕ} {g : List ℕ} (K : List Face) → Are G n g → n ≡ 0 → stuck ≡ try_clash K G
+unfolding try_clash
+clash-none {G = []} K w e = refl
+clash-none {G = x ∷ G} K w e = absurd (omega (arith, w.count))
 
-else-again : (m n : Move) → (m else n) ≡ ((m else stuck) else n)
-else-again m n = ap (λ (k : Move). k else n) (sym (else-stuck m))
+clash-cons : (K : List Face) (f : Face) (H : List Face) → try_clash K (f ∷ H) ≡ (clash_of K f else try_clash K H)
+unfolding try_clash
+clash-cons K f H = refl
 
-clash-cons : (z : Bool) (K : List Face) (f : Face) (H : List Face) → try_clash K (starting z (f ∷ H)) ≡ (clash_from z K f else try_clash K (starting z H))
-unfolding try_clash zeros
-clash-cons false K f H = else-again (clash_of K f) (try_clash K H)
-clash-cons true K ff H = refl
-clash-cons true K ft H = refl
-clash-cons true K (at lo n) H = else-again (clash_of K (at lo n)) (try_clash K (zeros H))
-clash-cons true K (at hi n) H = refl
-clash-cons true K (fand x y) H = refl
-clash-cons true K (for x y) H = refl
-
-module _ (z : Bool) (K : List Face) {G : List Face} {n : ℕ} {g h : List ℕ} (w : Are G n g) (some : n ≡ 0 → ⊥) (p : h ≡ part_at Faces g 0) where
-  abbrev others : Move
-  others = try_clash K (starting z (context_of (n - 1) (tail (length h) g)))
-
-  pub clash-first : try_clash K (starting z G) ≡ (clash_from z K (tree_of Faces h) else others)
+module _ (K : List Face) {G : List Face} {n : ℕ} {g h : List ℕ} (w : Are G n g) (z : n ≡ 0 → ⊥) (p : h ≡ part_at Faces g 0) where
+  pub clash-first : try_clash K G ≡ (clash_of K (tree_of Faces h) else try_clash K (context_of (n - 1) (tail (length h) g)))
   clash-first =
-      let v = first_of G n g h w some p in
-      ap (λ (H : List Face). try_clash K (starting z H)) v.whole ∙ clash-cons z K v.first v.rest
-      ∙ ap₂ (λ (f : Face) (H : List Face). clash_from z K f else try_clash K (starting z H)) (sym (tree-of v.face)) (sym (context-of v.others))
+      let v = first_of G n g h w z p in
+      ap (try_clash K) v.whole ∙ clash-cons K v.first v.rest
+      ∙ ap₂ (λ (f : Face) (H : List Face). clash_of K f else try_clash K H) (sym (tree-of v.face)) (sym (context-of v.others))
 
-  pub clash-here : {r : Clash} {k : ℕ} → clash_by r ≡ clash_from z K (tree_of Faces h) → r ≡ Of k → by-clash k ≡ try_clash K (starting z G)
-  clash-here {k} e f = sym (clash-first ∙ ap (λ (m : Move). m else others) (sym e ∙ ap clash_by f))
+  pub clash-here : {r : Clash} {k : ℕ} → clash_by r ≡ clash_of K (tree_of Faces h) → r ≡ Of k → by-clash k ≡ try_clash K G
+  clash-here {k} e f = sym (clash-first ∙ ap (λ (m : Move). m else try_clash K (context_of (n - 1) (tail (length h) g))) (sym e ∙ ap clash_by f))
 
-  pub clash-there : {r : Clash} {m : Move} → clash_by r ≡ clash_from z K (tree_of Faces h) → r ≡ Free → m ≡ others → m ≡ try_clash K (starting z G)
-  clash-there e f i = i ∙ sym (clash-first ∙ ap (λ (m : Move). m else others) (sym e ∙ ap clash_by f))
-
--- Where no face of G clashes, none with which a clash may begin does.
-both-stuck : (m n : Move) → (m else n) ≡ stuck → (m ≡ stuck) × (n ≡ stuck)
-both-stuck stuck n e = (refl, e)
-both-stuck by-top n e = (e, cc)
-both-stuck by-hit n e = (e, cc)
-both-stuck by-absurd n e = (e, cc)
-both-stuck (by-clash i) n e = (e, cc)
-both-stuck (by-and-left b x y a) n e = (e, cc)
-both-stuck (by-or-left b x y a) n e = (e, cc)
-both-stuck (by-and-right x y) n e = (e, cc)
-both-stuck (by-or-right x y) n e = (e, cc)
-
-apart-zeros : (K H : List Face) → try_clash K H ≡ stuck → try_clash K (zeros H) ≡ stuck
-unfolding try_clash zeros
-apart-zeros K [] e = refl
-apart-zeros K (ff ∷ H) e = apart-zeros K H e
-apart-zeros K (ft ∷ H) e = apart-zeros K H e
-apart-zeros K (at lo n ∷ H) e = let b = both-stuck (clash_of K (at lo n)) (try_clash K H) e in ap (λ (m : Move). m else try_clash K (zeros H)) b.0 ∙ apart-zeros K H b.1
-apart-zeros K (at hi n ∷ H) e = apart-zeros K H (both-stuck (clash_of K (at hi n)) (try_clash K H) e).1
-apart-zeros K (fand x y ∷ H) e = apart-zeros K H e
-apart-zeros K (for x y ∷ H) e = apart-zeros K H e
-
-pub apart-starting : (z : Bool) (K H : List Face) → try_clash K H ≡ stuck → try_clash K (starting z H) ≡ stuck
-apart-starting true K H e = apart-zeros K H e
-apart-starting false K H e = e
+  pub clash-there : {r : Clash} {m : Move} → clash_by r ≡ clash_of K (tree_of Faces h) → r ≡ Free → m ≡ try_clash K (context_of (n - 1) (tail (length h) g)) → m ≡ try_clash K G
+  clash-there e f i = i ∙ sym (clash-first ∙ ap (λ (m : Move). m else try_clash K (context_of (n - 1) (tail (length h) g))) (sym e ∙ ap clash_by f))
 
 -- The first compound, by the first face.
 pub compound-none : {G : List Face} {n : ℕ} {g : List ℕ} → Are G n g → n ≡ 0 → FirstCompound G 0

@@ -5,7 +5,6 @@ use Rattle.calculus.specs.Search.{Move, by-clash, stuck, split_of, try_left}
 use Rattle.calculus.specs.Judgement.{Step, cover}
 use Rattle.calculus.specs.Emit.{Program, emit, ◌>>=◌, done, run}
 use Rattle.calculus.specs.Calls.{emit_member, emit_cover}
-use Rattle.obligations.specs.Obligations.{zeros}
 use Rattle.index.specs.declared.Found.{Found}
 use Rattle.index.specs.declared.Found.TheVariants.{At, Absent}
 use Rattle.contexts.specs.declared.moves.Clash.{Clash}
@@ -15,16 +14,6 @@ use Rattle.contexts.specs.declared.moves.Clash.TheVariants.{Of, Free}
 abbrev pub clash_by : Clash → Move
 clash_by (Of n) = by-clash n
 clash_by Free = stuck
-
--- The faces with which a clash may begin: all, or the literals on the zero side.
-abbrev pub starting : Bool → List Face → List Face
-starting true G = zeros G
-starting false G = G
-
--- The highest kind byte that any of them with an opposite has.
-abbrev pub last_kind : Bool → ℕ
-last_kind true = 2
-last_kind false = 3
 
 -- Is the face compound?
 abbrev pub compound : Face → Bool

@@ -1,13 +1,12 @@
 // Moves that leave nothing to search: the goal or ff is in the context, or two literals clash.
-ghost use Rattle.std.specs.Prelude.{◌≡◌, [], ◌∷◌, ◌<◌, ◌≤◌, length, take};
+ghost use Rattle.std.specs.Prelude.{◌≡◌, [], ◌∷◌, ◌<◌};
 ghost use Rattle.formula.specs.declared.Sort.TheVariants.{Faces};
 ghost use Rattle.formula.specs.Formula.{ff, ft};
 ghost use Rattle.calculus.specs.Judgement.{member, cover};
 ghost use Rattle.calculus.specs.Rules.{Rule};
 ghost use Rattle.calculus.specs.Record.{operand_bytes};
-ghost use Rattle.calculus.specs.Emit.{emit, find};
+ghost use Rattle.calculus.specs.Emit.{emit};
 ghost use Rattle.ledger.specs.Ledger.{steps_of};
-ghost use Rattle.index.specs.Finding.{found_as};
 ghost use Rattle.index.specs.Index.{Indexed};
 ghost use Rattle.steps.specs.Running.{book, Runs, Emits};
 ghost use Rattle.formula.specs.Answers.{tree_of};
@@ -37,36 +36,18 @@ pub fn cover_step(
     steps::emit3(l, ix, kind, [i, j, k], &contexts::count(n), g, goal)
 }
 
-// Writes the operands of the cover judgement; answers how many bytes they are.
-fn put_operands(n: usize, g: &[u8], goal: &[u8], out: &mut [u8]) -> usize
-    requires { Context n g.now × Known Faces goal.now × (2046 ≤ length out.old) }
-    ensures { (result ≤ length out.new) × (take result out.new ≡ operand_bytes (cover (context_of n g.now) (tree_of Faces goal.now))) }
-{
-    let i = 2 + g.len();
-    formula::copy(&contexts::count(n), out, 0);
-    formula::copy(g, out, 2);
-    formula::copy(goal, out, i);
-    i + goal.len()
-}
-
 // The lowest step with this cover judgement, where its search is finished.
 pub fn finished(l: &[u8], ix: &[u32], n: usize, g: &[u8], goal: &[u8]) -> Found
     requires { Indexed l.now ix.now × Context n g.now × Known Faces goal.now }
     ensures { Settled (steps_of l.now) (context_of n g.now) (tree_of Faces goal.now) result }
 {
     let mut operands = [0u8; 2048];
-    let m = put_operands(n, g, goal, &mut operands);
+    let i = 2 + g.len();
+    let m = i + goal.len();
+    formula::copy(&contexts::count(n), &mut operands, 0);
+    formula::copy(g, &mut operands, 2);
+    formula::copy(goal, &mut operands, i);
     index::finished(l, ix, &operands[..m])
-}
-
-// The lowest step with this cover judgement, or how many steps there are.
-pub fn known(l: &[u8], ix: &[u32], n: usize, g: &[u8], goal: &[u8]) -> Found
-    requires { Indexed l.now ix.now × Context n g.now × Known Faces goal.now }
-    ensures { result ≡ found_as (find (cover (context_of n g.now) (tree_of Faces goal.now)) (steps_of l.now)) (length (steps_of l.now)) }
-{
-    let mut operands = [0u8; 2048];
-    let m = put_operands(n, g, goal, &mut operands);
-    index::find(l, ix, 6, &operands[..m])
 }
 
 // The cover step of the goal ft.

@@ -1,4 +1,6 @@
 // Contexts on bytes, for the search: members, what is left when a face is left out, tests of the next move, and the moves that close the search. A context is a count and the bytes of its faces.
+#![tactic(auto)]
+
 mod clashes;
 mod closings;
 mod contexts;
@@ -7,7 +9,7 @@ mod members;
 mod moves;
 mod takes;
 
-pub use closings::{by_absurd, by_clash, by_member, by_top, cover_step, finished, known};
+pub use closings::{by_absurd, by_clash, by_member, by_top, cover_step, finished};
 pub use lefts::{leave, left_out, offset};
 pub use members::member;
 pub use moves::{Clash, first_clash, first_compound, has};

@@ -1,17 +1,17 @@
 // The next move of the search: tests of the context, in the order of the tries.
-ghost use Rattle.std.specs.Prelude.{◌≡◌, [], ◌∷◌, ◌≤◌};
+ghost use Rattle.std.specs.Prelude.{◌≡◌, ◌≤◌};
 ghost use Rattle.formula.specs.declared.Sort.TheVariants.{Faces};
-ghost use Rattle.calculus.specs.Search.{has, try_clash};
+ghost use Rattle.calculus.specs.Search.{has, clash_of, try_clash};
 ghost use Rattle.formula.specs.Answers.{tree_of};
 ghost use Rattle.steps.specs.Trees.{Known};
 ghost use Rattle.contexts.specs.Contexts.{context_of, Context};
-ghost use Rattle.contexts.specs.Moves.{clash_by, last_kind, starting, FirstCompound};
+ghost use Rattle.contexts.specs.Moves.{clash_by, FirstCompound};
 
 use crate::clashes;
 use formula::Sort;
 
 // A clash of two literals at a dimension, or none.
-#[derive(Drop)]
+#[derive(Clone, Copy)]
 pub enum Clash {
     Of(usize),
     Free,
@@ -35,26 +35,16 @@ pub fn has(f: &[u8], n: usize, g: &[u8]) -> bool
     false
 }
 
-// The highest kind byte with which a clash begins: that of a zero literal, or of any literal.
-fn last_kind(zero: bool) -> u8
-    ensures { result ≡ last_kind zero }
-{
-    if zero {
-        return 2;
-    }
-    3
-}
-
-// The clash of the face x, where it is a literal, on the zero side if so said, whose opposite is in the context. The side of kind byte b is b - 2, the other one 3 - b.
-fn opposed(zero: bool, x: &[u8], n: usize, g: &[u8]) -> Clash
+// The clash of the face x, where it is a literal whose opposite is in the context. The side of kind byte b is b - 2, the other one 3 - b.
+fn opposed(x: &[u8], n: usize, g: &[u8]) -> Clash
     requires { Known Faces x.now × Context n g.now }
-    ensures { clash_by result ≡ try_clash (context_of n g.now) (starting zero (tree_of Faces x.now ∷ [])) }
+    ensures { clash_by result ≡ clash_of (context_of n g.now) (tree_of Faces x.now) }
 {
     let b = x[0];
     if b < 2 {
         return Clash::Free;
     }
-    if last_kind(zero) < b {
+    if 3 < b {
         return Clash::Free;
     }
     let k = formula::dim_at(x, 1);
@@ -64,31 +54,31 @@ fn opposed(zero: bool, x: &[u8], n: usize, g: &[u8]) -> Clash
     Clash::Free
 }
 
-// The first clash in the context g of a face of h, on the zero side if so said.
-fn clash_in(zero: bool, n: usize, g: &[u8], m: usize, h: &[u8]) -> Clash
+// The first clash in the context g of a face of h.
+fn clash_in(n: usize, g: &[u8], m: usize, h: &[u8]) -> Clash
     requires { Context n g.now × Context m h.now }
-    ensures { clash_by result ≡ try_clash (context_of n g.now) (starting zero (context_of m h.now)) }
+    ensures { clash_by result ≡ try_clash (context_of n g.now) (context_of m h.now) }
 {
     if m == 0 {
         return Clash::Free;
     }
     let x = formula::formula_at(Sort::Faces, h, 0);
-    match opposed(zero, x, n, g) {
+    match opposed(x, n, g) {
         Clash::Of(k) => Clash::Of(k),
-        Clash::Free => clash_in(zero, n, g, m - 1, &h[x.len()..]),
+        Clash::Free => clash_in(n, g, m - 1, &h[x.len()..]),
     }
 }
 
-// The first clash in the context; of its zero literals alone, if so said.
-pub fn first_clash(zero: bool, n: usize, g: &[u8]) -> Clash
+// The first clash in the context.
+pub fn first_clash(n: usize, g: &[u8]) -> Clash
     requires { Context n g.now }
-    ensures { clash_by result ≡ try_clash (context_of n g.now) (starting zero (context_of n g.now)) }
+    ensures { clash_by result ≡ try_clash (context_of n g.now) (context_of n g.now) }
 {
     let mut seen = [0u8; 512];
     if clashes::apart(n, g, &mut seen) {
         return Clash::Free;
     }
-    clash_in(zero, n, g, n, g)
+    clash_in(n, g, n, g)
 }
 
 // The number of the first compound face; n where there is none.

@@ -1,5 +1,7 @@
 // Damaged ledgers: standard input has ledgers that the Rust made, each with a list of damages, a place and a new byte for it.
 // The step desk is asked about the ledger and about each copy with one byte changed. tools/desk/damage.py writes the input.
+#![tactic(auto)]
+
 use desk::Verdict;
 use libc::STDIN_FILENO;
 

@@ -1,5 +1,7 @@
 // The clauses of a face in lent slices, and the bytes of its normal form. A clause list is a part of a lent slice of
 // clauses.
+#![tactic(auto)]
+
 mod finding;
 mod forming;
 mod joined;

@@ -1,24 +1,23 @@
 -- The emit rule on bytes is that on judgements.
-use Prim.Native.Nat.{ℕ, suc, ◌+◌, ◌≤◌, ◌<◌}
+use Prim.Native.Nat.{ℕ, suc, ◌+◌, ◌≤◌}
 use native.Mathlib.Omega.{arith}
 use native.Mathlib.Nat.{add-zero, zero-add}
 use mathlib.Core.Path.{◌≡◌, refl, sym, ap, ap₂, ◌∙◌, subst}
-use mathlib.Core.Bool.{Bool, true, false, ◌&&◌}
+use mathlib.Core.Bool.{Bool, true, false}
 use mathlib.Core.Option.{Option, none, some}
 use mathlib.Core.List.{List, [], ◌∷◌, ◌++◌}
-use lib.ListN.{length, take, length-append}
+use lib.ListN.{length, take}
 use borrow.Author.Tests.{le-leb, lt-leb}
 use Rattle.calculus.specs.Judgement.{Step}
 use Rattle.calculus.specs.Table.{predicate, entry_of}
 use Rattle.calculus.specs.Record.{size, ledger_bytes, FormedStep, FormedFrom, Holds}
-use Rattle.calculus.specs.Emit.{find, append, emit, within, run}
+use Rattle.calculus.specs.Emit.{find, emit, within, run}
 use Rattle.calculus.proofs.Records.{ledger-length}
 use Rattle.kinds.specs.Kinds.{number_of, entry_as}
 use Rattle.kinds.specs.declared.Entry.TheVariants.{Listed, Unlisted}
 use Rattle.kinds.proofs.KindLaws.{listed_same, not-unlisted}
 use Rattle.ledger.specs.Ledger.{steps_of, Led}
 use Rattle.index.specs.declared.Found.TheVariants.{At, Absent}
-use Rattle.index.specs.Index.{capacity}
 use Rattle.index.specs.Finding.{find_bytes, found_as}
 use Rattle.index.proofs.SameLaws.{find-same, found_some, found_none}
 use Rattle.emission.specs.declared.Emitted.{Emitted}
@@ -43,52 +42,40 @@ asked : {l : List ℕ} → Led l → (s : Step) → FormedStep (length (steps_of
 asked {l} h s f p is x kind t e o i =
     sym (find-same s.judgement f.limits 0 (steps_of l) h.formed) ∙ ap₂ (λ (q : ℕ) (y : List ℕ). find_bytes q y (steps_of l)) e t.judges ∙ i
 
--- The emit rule for a step of this predicate and these operands, in a ledger l with an index x.
-module _ {l : List ℕ} (h : Led l) (x : List ℕ) (kind p i : ℕ) (is o : List ℕ) where
-  -- What the rule comes to.
-  abbrev Answers : Emitted → List ℕ → Type 0
-  Answers r l' = EmissionAs l x kind is p o r l'
+-- The emit rule where the judgement stands already.
+pub emit-found : {l : List ℕ} → Led l → (kind p i : ℕ) (is x : List ℕ) → At i ≡ found_as (find_bytes p x (steps_of l)) (length (steps_of l))
+    → (s : Step) → FormedStep (length (steps_of l)) s → StandsFor s kind is x → number_of (predicate s.judgement) ≡ p
+    → Ran l (run (within (length l)) (emit s.kind s.references s.judgement) (steps_of l)) (Number i) l
+unfolding run
+emit-found {l} h kind p i is x e s f t q = rw (asked h s f p is x kind t q (some i) (found_some _ _ i e)) (refl, refl, h)
 
-  -- Where the judgement stands already.
-  pub emit-found : At i ≡ found_as (find_bytes p o (steps_of l)) (length (steps_of l)) → Answers (Number i) l
-  unfolding run
-  emit-found e s f t q = rw (asked h s f p is o kind t q (some i) (found_some _ _ i e)) (refl, refl, h)
+-- Where it is new and there is room, and where there is none.
+pub emit-new : {l : List ℕ} → Led l → (kind p i : ℕ) (is x l' : List ℕ) → Absent i ≡ found_as (find_bytes p x (steps_of l)) (length (steps_of l))
+    → (c : Bool) → c ≡ true → ((s : Step) → StandsFor s kind is x → Appends l s c l')
+    → (s : Step) → FormedStep (length (steps_of l)) s → StandsFor s kind is x → number_of (predicate s.judgement) ≡ p
+    → Ran l (run (within (length l)) (emit s.kind s.references s.judgement) (steps_of l)) (Number i) l'
+unfolding run
+emit-new {l} h kind p i is x l' e c k a s f t q =
+    let n = found_none _ _ i e in
+    let b = subst (λ (d : Bool). Appends l s d l') k (a s t) in
+    let m = holds_more h s f b.0 b.1 in
+    rw (asked h s f p is x kind t q none n.0, le-leb (size (steps_of l ++ s ∷ [])) (length l) b.0) (n.1, m.0, m.1)
 
-  module _ (l' : List ℕ) (absent : Absent i ≡ found_as (find_bytes p o (steps_of l)) (length (steps_of l))) where
-    none-there : (s : Step) → FormedStep (length (steps_of l)) s → StandsFor s kind is o → number_of (predicate s.judgement) ≡ p → find s.judgement (steps_of l) ≡ none
-    none-there s f t q = asked h s f p is o kind t q none (found_none _ _ i absent).0
-
-    -- Where it is new and there is room, where the ledger has none, and where the index has none.
-    pub emit-new : length (steps_of l) < capacity (length x) → (c : Bool) → c ≡ true → ((s : Step) → StandsFor s kind is o → Appends l s c l') → Answers (Number i) l'
-    unfolding run
-    emit-new few c k a s f t q =
-        let b = subst (λ (d : Bool). Appends l s d l') k (a s t) in
-        let m = holds_more h s f b.0 b.1 in
-        let n = found_none (find_bytes p o (steps_of l)) (length (steps_of l)) i absent in
-        rw (none-there s f t q, le-leb (size (steps_of l ++ s ∷ [])) (length l) b.0, le-leb (length (steps_of l ++ s ∷ [])) (capacity (length x)) (omega (arith, length-append (steps_of l) (s ∷ []))))
-        (n.1, m.0, m.1)
-
-    pub emit-full : (c : Bool) → c ≡ false → ((s : Step) → StandsFor s kind is o → Appends l s c l') → Answers Full l'
-    unfolding run
-    emit-full c k a s f t q =
-        let b = subst (λ (d : Bool). Appends l s d l') k (a s t) in
-        rw (none-there s f t q, lt-leb (size (steps_of l ++ s ∷ [])) (length l) b.0) b.1
-
-  pub emit-crowded : Absent i ≡ found_as (find_bytes p o (steps_of l)) (length (steps_of l)) → capacity (length x) ≤ length (steps_of l) → Answers Full l
-  unfolding run
-  emit-crowded e few s f t q =
-      rw (none-there l e s f t q, lt-leb (length (steps_of l ++ s ∷ [])) (capacity (length x)) (omega (arith, length-append (steps_of l) (s ∷ [])))) (go (within (length l) (steps_of l ++ s ∷ [])))
-    where
-      go : (b : Bool) → Ran l (append (b && false) (steps_of l) s) Full l
-      go true = refl
-      go false = refl
+pub emit-full : {l : List ℕ} → Led l → (kind p i : ℕ) (is x l' : List ℕ) → Absent i ≡ found_as (find_bytes p x (steps_of l)) (length (steps_of l))
+    → (c : Bool) → c ≡ false → ((s : Step) → StandsFor s kind is x → Appends l s c l')
+    → (s : Step) → FormedStep (length (steps_of l)) s → StandsFor s kind is x → number_of (predicate s.judgement) ≡ p
+    → Ran l (run (within (length l)) (emit s.kind s.references s.judgement) (steps_of l)) Full l'
+unfolding run
+emit-full {l} h kind p i is x l' e c k a s f t q =
+    let b = subst (λ (d : Bool). Appends l s d l') k (a s t) in
+    rw (asked h s f p is x kind t q none (found_none _ _ i e).0, lt-leb (size (steps_of l ++ s ∷ [])) (length l) b.0) b.1
 
 -- By the entry of the kind: as many references as it says.
-pub emit-as : (l l' x : List ℕ) (kind n p : ℕ) (references o : List ℕ) (r : Emitted) → Listed n p ≡ entry_as (entry_of kind) → EmissionAs l x kind (take n references) p o r l' → Emission l x kind references o r l'
-emit-as l l' x kind n p references o r e h s f t =
+pub emit-as : (l l' : List ℕ) (kind n p : ℕ) (references x : List ℕ) (r : Emitted) → Listed n p ≡ entry_as (entry_of kind) → EmissionAs l kind (take n references) p x r l' → Emission l kind references x r l'
+emit-as l l' kind n p references x r e h s f t =
     let g = listed_same (e ∙ ap (λ (k : ℕ). entry_as (entry_of k)) (sym t.kinds) ∙ ap entry_as f.listed.listed) in
     h s f (record { kinds = t.kinds; refers = t.refers ∙ ap (λ (m : ℕ). take m references) (sym g.0); judges = t.judges }) (sym g.1)
 
 -- No step is of a kind that the table does not list.
-pub emit-no-kind : (l l' x : List ℕ) (kind : ℕ) (references o : List ℕ) (r : Emitted) → Unlisted ≡ entry_as (entry_of kind) → Emission l x kind references o r l'
-emit-no-kind l l' x kind references o r e s f t = not-unlisted (e ∙ ap (λ (k : ℕ). entry_as (entry_of k)) (sym t.kinds) ∙ ap entry_as f.listed.listed)
+pub emit-no-kind : (l l' : List ℕ) (kind : ℕ) (references x : List ℕ) (r : Emitted) → Unlisted ≡ entry_as (entry_of kind) → Emission l kind references x r l'
+emit-no-kind l l' kind references x r e s f t = not-unlisted (e ∙ ap (λ (k : ℕ). entry_as (entry_of k)) (sym t.kinds) ∙ ap entry_as f.listed.listed)

@@ -1,12 +1,12 @@
 -- What the functions that write to a ledger's bytes answer and leave: a step more, the emit rule, going back.
-use Rattle.std.specs.Prelude.{◌≡◌, Bool, true, false, ◌&&◌, List, [], ◌∷◌, ◌++◌, ℕ, ◌≤◌, ◌<◌, leb, length, take}
+use Rattle.std.specs.Prelude.{◌≡◌, Bool, true, false, List, [], ◌∷◌, ◌++◌, ℕ, ◌≤◌, ◌<◌, length, take}
 use Rattle.calculus.specs.Judgement.{Step}
 use Rattle.calculus.specs.Table.{predicate}
 use Rattle.calculus.specs.Record.{little_endian, operand_bytes, references_bytes, size, ledger_bytes, FormedStep, Holds}
 use Rattle.calculus.specs.Emit.{Outcome, done, stopped, full, emit, within, run}
 use Rattle.kinds.specs.Kinds.{number_of}
 use Rattle.ledger.specs.Ledger.{steps_of}
-use Rattle.index.specs.Index.{capacity, Indexed}
+use Rattle.index.specs.Index.{Indexed}
 use Rattle.emission.specs.declared.Emitted.{Emitted}
 use Rattle.emission.specs.declared.Emitted.TheVariants.{Full}
 use Rattle.emission.specs.declared.Emitted.TheVariants.{Step as Number}
@@ -44,28 +44,24 @@ Ran l (stopped e L) r l' = ⊥
 Ran l full (Number m) l' = ⊥
 Ran l full Full l' = l' ≡ l
 
--- Is there room for these steps in a ledger of n bytes and an index of k numbers?
-abbrev pub room_for : ℕ → ℕ → List Step → Bool
-room_for n k M = within n M && leb (length M) (capacity k)
-
 -- The emit rule for every step that the bytes stand for.
-abbrev pub Emission : List ℕ → List ℕ → ℕ → List ℕ → List ℕ → Emitted → List ℕ → Type 0
-Emission l x kind references operands r l' =
+abbrev pub Emission : List ℕ → ℕ → List ℕ → List ℕ → Emitted → List ℕ → Type 0
+Emission l kind references operands r l' =
     (s : Step) → FormedStep (length (steps_of l)) s → StandsFor s kind (take (length s.references) references) operands
-    → Ran l (run (room_for (length l) (length x)) (emit s.kind s.references s.judgement) (steps_of l)) r l'
+    → Ran l (run (within (length l)) (emit s.kind s.references s.judgement) (steps_of l)) r l'
 
 -- For a private contract: the same where the predicate's number is known.
-abbrev pub EmissionAs : List ℕ → List ℕ → ℕ → List ℕ → ℕ → List ℕ → Emitted → List ℕ → Type 0
-EmissionAs l x kind references p operands r l' =
+abbrev pub EmissionAs : List ℕ → ℕ → List ℕ → ℕ → List ℕ → Emitted → List ℕ → Type 0
+EmissionAs l kind references p operands r l' =
     (s : Step) → FormedStep (length (steps_of l)) s → StandsFor s kind references operands → number_of (predicate s.judgement) ≡ p
-    → Ran l (run (room_for (length l) (length x)) (emit s.kind s.references s.judgement) (steps_of l)) r l'
+    → Ran l (run (within (length l)) (emit s.kind s.references s.judgement) (steps_of l)) r l'
 
--- The index, which was x, is kept for every step that the bytes stand for.
-abbrev pub Keeps : List ℕ → List ℕ → ℕ → List ℕ → List ℕ → List ℕ → List ℕ → Type 0
-Keeps l x kind references operands l' x' =
-    (s : Step) → FormedStep (length (steps_of l)) s → StandsFor s kind (take (length s.references) references) operands → Indexed l' x' × (length x' ≡ length x)
+-- The index is kept for every step that the bytes stand for.
+abbrev pub Keeps : List ℕ → ℕ → List ℕ → List ℕ → List ℕ → List ℕ → Type 0
+Keeps l kind references operands l' x' =
+    (s : Step) → FormedStep (length (steps_of l)) s → StandsFor s kind (take (length s.references) references) operands → Indexed l' x'
 
 -- For a private contract: the same where the predicate's number is known.
-abbrev pub KeepsAs : List ℕ → List ℕ → ℕ → List ℕ → ℕ → List ℕ → List ℕ → List ℕ → Type 0
-KeepsAs l x kind references p operands l' x' =
-    (s : Step) → FormedStep (length (steps_of l)) s → StandsFor s kind references operands → number_of (predicate s.judgement) ≡ p → Indexed l' x' × (length x' ≡ length x)
+abbrev pub KeepsAs : List ℕ → ℕ → List ℕ → ℕ → List ℕ → List ℕ → List ℕ → Type 0
+KeepsAs l kind references p operands l' x' =
+    (s : Step) → FormedStep (length (steps_of l)) s → StandsFor s kind references operands → number_of (predicate s.judgement) ≡ p → Indexed l' x'

@@ -17,15 +17,12 @@ fn emit_listed(
     operands: &[u8],
 ) -> Emitted
     requires { Indexed l.old x.old × (n ≤ 3) }
-    ensures { EmissionAs l.old x.old kind (take n references) predicate operands.now result l.new × KeepsAs l.old x.old kind (take n references) predicate operands.now l.new x.new }
+    ensures { EmissionAs l.old kind (take n references) predicate operands.now result l.new × KeepsAs l.old kind (take n references) predicate operands.now l.new x.new }
 {
     let b = index::bucket_of(index::heads(x.len()), predicate, operands);
     match index::find_in(l, x, b, predicate, operands) {
         Found::At(i) => Emitted::Step(i),
         Found::Absent(i) => {
-            if !index::has_room(x) {
-                return Emitted::Full;
-            }
             let at = ledger::used(l);
             if grow::append(l, kind, references, n, operands) {
                 index::enter_step(x, b, at);
@@ -45,7 +42,7 @@ pub fn emit_step(
     operands: &[u8],
 ) -> Emitted
     requires { Indexed l.old x.old }
-    ensures { Emission l.old x.old kind references operands.now result l.new × Keeps l.old x.old kind references operands.now l.new x.new }
+    ensures { Emission l.old kind references operands.now result l.new × Keeps l.old kind references operands.now l.new x.new }
 {
     match kinds::entry_of(kind) {
         kinds::Entry::Listed(n, p) => emit_listed(l, x, kind, references, n, p, operands),

@@ -1,4 +1,6 @@
 // Writing to a ledger's bytes: a step more, the emit rule, and going back.
+#![tactic(auto)]
+
 mod emit;
 mod grow;
 
@@ -6,7 +8,7 @@ pub use emit::emit_step;
 pub use grow::{append, undo};
 
 // The number of the step, or that the ledger has no room for it.
-#[derive(Drop)]
+#[derive(Clone, Copy)]
 pub enum Emitted {
     Step(usize),
     Full,

@@ -1,4 +1,6 @@
 // The calls on a ledger's bytes: face, interval, boundary, endpoint, forall, shift, substitute, entails.
+#![tactic(auto)]
+
 mod boundaries;
 mod bounds;
 mod entailments;

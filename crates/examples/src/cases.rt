@@ -4,7 +4,7 @@ use formula::{Place, Sort};
 use operations::Op;
 
 // What is asked, of which sort, a number, how many bytes are lent, and the lengths of label and operands.
-#[derive(Drop)]
+#[derive(Clone, Copy)]
 pub struct Case {
     pub what: usize,
     pub sort: usize,

@@ -1,5 +1,7 @@
 // Cases of the functions on formulas and ledgers that no call of the replay shows: standard input has them, each with a label
 // and its bytes (tools/examples/cases.py writes them, and what is to be printed). A line or more for each.
+#![tactic(auto)]
+
 mod cases;
 mod show;
 

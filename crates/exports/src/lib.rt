@@ -1,4 +1,6 @@
 // What C and Rust programs call. Every answer is one number (numbers' specs/Answers): a refusal is negative.
+#![tactic(auto)]
+
 ghost use Rattle.std.specs.Prelude.{◌≡◌, [], ◌∷◌};
 ghost use Rattle.calculus.specs.Parse.{read_ledger};
 ghost use Rattle.calculus.specs.Door.{reply, face as face_call, interval as interval_call, boundary as boundary_call, endpoint as endpoint_call, forall as forall_call, shift as shift_call, substitute as substitute_call, entails as entails_call};

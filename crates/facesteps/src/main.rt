@@ -1,4 +1,6 @@
 // Reads a claim, one line of standard input, and prints its steps and the answer.
+#![tactic(auto)]
+
 ghost use Rattle.std.specs.Prelude.{◌≡◌, ◌≤◌, length};
 ghost use Rattle.ledger.specs.Ledger.{Led};
 

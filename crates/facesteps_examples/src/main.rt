@@ -1,5 +1,7 @@
 // Inputs of facesteps and all that it prints for them: standard input has the cases, each a length in decimal on a line, as many
 // bytes, and byte 10 (tools/facesteps/cases.py writes them, and what is to be printed). A long output is shown by its length and sum.
+#![tactic(auto)]
+
 ghost use Rattle.std.specs.Prelude.{◌≤◌, length};
 
 use libc::STDIN_FILENO;
@@ -40,7 +42,7 @@ fn run(input: &[u8], space: &mut [u8]) {
 }
 
 // The number on the line from a place on: its value, and the place behind the line.
-#[derive(Drop)]
+#[derive(Clone, Copy)]
 struct Number {
     value: usize,
     end: usize,

@@ -1,4 +1,6 @@
 // Files named on the command line, for the programs.
+#![tactic(auto)]
+
 ghost use Rattle.io.specs.Counts.{IsPrefixLen};
 
 use stdio::Content;

@@ -1,4 +1,6 @@
 // The forall judgements of a face, beside the bytes of the result.
+#![tactic(auto)]
+
 ghost use Rattle.std.specs.Prelude.{◌≡◌, [], ◌∷◌, ◌++◌, ◌+◌, ◌≤◌, ◌<◌, length, get_or};
 ghost use Rattle.formula.specs.Operations.{forall as forall_of};
 ghost use Rattle.formula.specs.Bytes.{dim_bytes, encode};

@@ -1,4 +1,6 @@
 // The nodes and the bytes of a normal form, from clauses as bits.
+#![tactic(auto)]
+
 ghost use Rattle.std.specs.Prelude.{◌≡◌, ◌+◌, ◌/◌, ◌<◌, ◌≤◌, length, replicate};
 ghost use Rattle.formula.specs.Bytes.{encode_face};
 ghost use Rattle.formula.specs.Answers.{dim_space};

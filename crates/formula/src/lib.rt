@@ -1,4 +1,6 @@
 // Prefix-byte formulas of both sorts: nodes, places, measuring, and parts of a slice.
+#![tactic(auto)]
+
 mod bytes;
 mod node;
 mod walk;
@@ -12,14 +14,14 @@ use refusals::Refusal;
 pub use walk::{formula_at, larger, measure, measure_at, operand, within};
 
 // The two sorts of formula.
-#[derive(Drop)]
+#[derive(Clone, Copy)]
 pub enum Sort {
     Faces,
     Intervals,
 }
 
 // What a kind byte begins: a leaf, a literal, a node over one formula or over two; or nothing.
-#[derive(Drop)]
+#[derive(Clone, Copy)]
 pub enum Kind {
     Nullary,
     Literal,
@@ -29,7 +31,7 @@ pub enum Kind {
 }
 
 // The length in bytes, the node count and the bound of a formula.
-#[derive(Drop)]
+#[derive(Clone, Copy)]
 pub struct Size {
     pub len: usize,
     pub nodes: usize,
@@ -37,28 +39,28 @@ pub struct Size {
 }
 
 // What a slice is found to be: exactly one formula, or not (refusal 2).
-#[derive(Drop)]
+#[derive(Clone, Copy)]
 pub enum Measured {
     Formula(Size),
     Ill,
 }
 
 // The size of an operand or of a result, or why it is refused.
-#[derive(Drop)]
+#[derive(Clone, Copy)]
 pub enum Sized {
     Fits(Size),
     Refused(Refusal),
 }
 
 // A place in a row of prefix formulas: `pending` of them are still to come from byte `at` on.
-#[derive(Drop)]
+#[derive(Clone, Copy)]
 pub struct Place {
     pub at: usize,
     pub pending: usize,
 }
 
 // One node further: the node's kind, a literal's dimension, and the place behind it.
-#[derive(Drop)]
+#[derive(Clone, Copy)]
 pub enum Advance {
     Leaf(Place),
     Lit(Place, usize),

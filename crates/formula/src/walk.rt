@@ -9,7 +9,7 @@ use crate::{Kind, Measured, Size, Sized, Sort, node};
 use refusals::Refusal;
 
 // How far a walk has come, and what it has counted.
-#[derive(Drop)]
+#[derive(Clone, Copy)]
 struct Walk {
     at: usize,
     pending: usize,
@@ -17,7 +17,7 @@ struct Walk {
     bound: usize,
 }
 
-#[derive(Drop)]
+#[derive(Clone, Copy)]
 enum Turn {
     On(Walk),
     Broken,

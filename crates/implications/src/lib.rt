@@ -1,4 +1,6 @@
 // Implications: a face that entails another, and an interval that is an end wherever a face holds.
+#![tactic(auto)]
+
 ghost use Rattle.std.specs.Prelude.{◌≡◌, [], ◌∷◌, ◌++◌, ◌≤◌, length};
 ghost use Rattle.formula.specs.declared.Sort.TheVariants.{Faces, Intervals};
 ghost use Rattle.formula.specs.Formula.{i0, i1};

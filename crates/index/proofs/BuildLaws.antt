@@ -6,11 +6,11 @@ use mathlib.Core.List.{List, []}
 use lib.ListN.{length, get_or, drop, replicate, length-replicate, get_or-replicate, get_or-append}
 use lib.Seq.{sets, length-sets}
 use Rattle.calculus.specs.Judgement.{Step}
-use Rattle.calculus.specs.Record.{size}
+use Rattle.calculus.specs.Record.{size, Holds}
 use Rattle.records.proofs.NumberLaws.{sets_behind}
 use Rattle.ledger.specs.Ledger.{steps_of, Led, place_of, Points}
 use Rattle.ledger.proofs.PointLaws.{Walks, walks-start, walks_next, walks-end}
-use Rattle.index.specs.Index.{bucket_at, heads_of, places_from, IndexedTo, Wide, Indexed, Entered, Enterable}
+use Rattle.index.specs.Index.{bucket_at, heads_of, places_from, IndexedTo, Roomy, Indexed, Entered, Enterable, Enters}
 use Rattle.index.proofs.EnterLaws.{entered-length, indexed-after, indexed-none}
 use Rattle.index.proofs.RoomLaws.{holds-eight}
 
@@ -28,38 +28,38 @@ none-indexed H P L x y h e = subst (λ (z : List ℕ). IndexedTo H P L z 0) (sym
 pub record Building (l : List ℕ) (h n : ℕ) (x : List ℕ) (step at : ℕ) : Type 0 where
   pub walks : Walks l step at
   pub heads : h ≡ heads_of x
-  pub room : Wide x (length (steps_of l))
+  pub room : Roomy l x
   pub long : length x ≡ n
   pub steps : IndexedTo h (places_from x) (steps_of l) x step
 
 -- Step n of a ledger has room in the index.
-pub enterable : {l x : List ℕ} {h n : ℕ} {step at : ℕ} → Building l h n x step at → Points l step at → Enterable x
-enterable w p = (omega (arith, holds-eight p.led, p.led.small, p.inside, w.steps.count), omega (arith, w.room.1, p.inside, w.steps.count))
+pub enterable : (l : List ℕ) (L : List Step) (x : List ℕ) (n : ℕ) → Holds l L → Roomy l x → n < length L → get_or x 0 0 ≡ n → Enterable x
+enterable l L x n h r b e = (omega (arith, holds-eight h, h.small), omega (arith, holds-eight h))
 
-pub build-start : {l : List ℕ} → Led l → (h : ℕ) (x y : List ℕ) → h ≡ heads_of x → Wide x (length (steps_of l)) → y ≡ sets x 0 (replicate (1 + h) 0) → Building l h (length y) y 0 4
+pub build-start : {l : List ℕ} → Led l → (h : ℕ) (x y : List ℕ) → h ≡ heads_of x → Roomy l x → y ≡ sets x 0 (replicate (1 + h) 0) → Building l h (length y) y 0 4
 build-start {l} d h x y e r k =
     let n : length y ≡ length x = ap length k ∙ length-sets x 0 (replicate (1 + h) 0) in
     record {
       walks = walks-start d;
       heads = e ∙ ap (λ (m : ℕ). 4 * ((m - 2) / 21) + 1) (sym n);
-      room = (omega (arith, n, r.0), omega (arith, n, r.1));
+      room = omega (arith, n);
       long = refl;
-      steps = none-indexed h (places_from y) (steps_of l) x y (omega (arith, r.0)) k;
+      steps = none-indexed h (places_from y) (steps_of l) x y (omega (arith, holds-eight d)) k;
     }
 
 -- One step more.
 pub build-turn : {l : List ℕ} {h n : ℕ} {x : List ℕ} {step at : ℕ} → Building l h n x step at → Points l step at → {b : ℕ} → (b ≡ bucket_at h (steps_of l) step) × (b < h)
-    → {x' : List ℕ} → Entered (heads_of x) (places_from x) (get_or x 0 0) x b at x' → {step' at' : ℕ} → (step' ≡ suc step) × (at' ≡ place_of (steps_of l) (suc step)) → Building l h n x' step' at'
+    → {x' : List ℕ} → Enters x b at x' → {step' at' : ℕ} → (step' ≡ suc step) × (at' ≡ place_of (steps_of l) (suc step)) → Building l h n x' step' at'
 build-turn {l} {h} {n} {x} {step} {at} w p {b} is {x'} e {step'} {at'} next =
-    let f = enterable w p in
-    let k : Entered h (places_from x) step x b at x' = subst₂ (λ (a m : ℕ). Entered a (places_from x) m x b at x') (sym w.heads) w.steps.count e in
+    let f = enterable l (steps_of l) x step p.led w.room p.inside w.steps.count in
+    let k : Entered h (places_from x) step x b at x' = subst₂ (λ (a m : ℕ). Entered a (places_from x) m x b at x') (sym w.heads) w.steps.count (e f) in
     let q : places_from x ≤ length x = omega arith in
     let m : length x' ≡ length x = entered-length k q in
     let i : IndexedTo h (places_from x) (steps_of l) x' (suc step) = indexed-after k q w.steps is.1 is.0 p.place (omega (arith, f.1, w.heads, w.steps.count)) (omega (arith, f.0, w.steps.count)) in
     record {
       walks = walks_next p next;
       heads = w.heads ∙ ap (λ (j : ℕ). 4 * ((j - 2) / 21) + 1) (sym m);
-      room = (omega (arith, w.room.0, m), omega (arith, w.room.1, m));
+      room = omega (arith, w.room, m);
       long = m ∙ w.long;
       steps = subst₂ (λ (a s : ℕ). IndexedTo h a (steps_of l) x' s) (ap (λ (j : ℕ). j - (j - 2) / 21) (sym m)) (sym next.0) i;
     }

@@ -86,18 +86,14 @@ pub record IndexedTo (H P : ℕ) (L : List Step) (x : List ℕ) (n : ℕ) : Type
   pub marks : (i : ℕ) → i < n → mark ≤ get_or x (1 + H + i) 0 → Finished L i
   pub places : Noted L n (drop P x)
 
--- How many steps a list of n numbers has links for.
-abbrev pub capacity : ℕ → ℕ
-capacity n = 16 * ((n - 2) / 21)
-
--- The list has heads, and links for n steps.
-abbrev pub Wide : List ℕ → ℕ → Type 0
-Wide x n = (1 ≤ groups_of x) × (n ≤ capacity (length x))
+-- There is room for every step that the ledger has room for: a record has eight bytes or more.
+abbrev pub Roomy : List ℕ → List ℕ → Type 0
+Roomy l x = length l ≤ 128 * groups_of x
 
 -- The list is the index of all steps of a ledger.
 pub record Indexed (l x : List ℕ) : Type 0 where
   pub led : Led l
-  pub room : Wide x (length (steps_of l))
+  pub room : Roomy l x
   pub steps : IndexedTo (heads_of x) (places_from x) (steps_of l) x (length (steps_of l))
 
 -- For a private contract: the link and the head of one step more behind n others, in bucket b of H, and the count.
@@ -118,7 +114,11 @@ pub record Entered (H P n : ℕ) (x : List ℕ) (b at : ℕ) (x' : List ℕ) : T
 
 -- For a private contract: there is room for one step more.
 abbrev pub Enterable : List ℕ → Type 0
-Enterable x = (get_or x 0 0 < 1048576) × (get_or x 0 0 < capacity (length x))
+Enterable x = (get_or x 0 0 < 1048576) × (get_or x 0 0 < 16 * groups_of x)
+
+-- For a private contract: one step more, where there is room.
+abbrev pub Enters : List ℕ → ℕ → ℕ → List ℕ → Type 0
+Enters x b at x' = Enterable x → Entered (heads_of x) (places_from x) (get_or x 0 0) x b at x'
 
 -- For a private contract: a mark more, at step i.
 unfoldable pub marked : ℕ → List ℕ → ℕ → List ℕ

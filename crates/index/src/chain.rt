@@ -5,7 +5,7 @@ ghost use Rattle.ledger.specs.Ledger.{steps_of, Points};
 ghost use Rattle.index.specs.Finding.{same_step, find_bytes, found_as};
 ghost use Rattle.index.specs.Index.{choose, heads_of, bucket_of, Indexed};
 
-use crate::{Found, bucket, enter, lowest};
+use crate::{Found, enter, lowest};
 use ledger::Cursor;
 
 // The number of the step and one, where it has this predicate and these operands; else what was found before.
@@ -37,13 +37,4 @@ pub fn find_in(l: &[u8], x: &[u32], b: usize, predicate: usize, operands: &[u8])
         return Found::Absent(enter::slot(x, 0));
     }
     Found::At(found - 1)
-}
-
-// The lowest step with this predicate and these operands, or how many steps there are.
-pub fn find(l: &[u8], x: &[u32], predicate: usize, operands: &[u8]) -> Found
-    requires { Indexed l.now x.now }
-    ensures { result ≡ found_as (find_bytes predicate operands.now (steps_of l.now)) (length (steps_of l.now)) }
-{
-    let b = bucket::bucket_of(enter::heads(x.len()), predicate, operands);
-    find_in(l, x, b, predicate, operands)
 }

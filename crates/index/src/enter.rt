@@ -1,6 +1,6 @@
 // The parts of an index, and one step more.
-ghost use Rattle.std.specs.Prelude.{◌≡◌, ◌+◌, ◌-◌, ◌/◌, ◌*◌, ◌%◌, ◌≤◌, ◌<◌, leb, ltb, length, get_or};
-ghost use Rattle.index.specs.Index.{groups_of, capacity, heads_of, places_from, mark, Placed, Entered, Enterable, marked};
+ghost use Rattle.std.specs.Prelude.{◌≡◌, ◌+◌, ◌-◌, ◌/◌, ◌*◌, ◌%◌, ◌≤◌, ◌<◌, leb, length, get_or};
+ghost use Rattle.index.specs.Index.{groups_of, heads_of, places_from, mark, Placed, Entered, Enters, marked};
 
 fn wide(n: u32) -> usize
     ensures { (result ≡ n) × (result < 4294967296) }
@@ -77,28 +77,21 @@ fn store(x: &mut [u32], n: usize, b: usize, at: usize)
     x[0] = (n + 1) as u32;
 }
 
-// How many steps there are.
-pub fn count(x: &[u32]) -> usize
-    requires { 0 < length x.now }
-    ensures { result ≡ get_or x.now 0 0 }
-{
-    slot(x, 0)
-}
-
-// Whether there is a link for one step more.
-pub fn has_room(x: &[u32]) -> bool
-    requires { 0 < length x.now }
-    ensures { result ≡ ltb (get_or x.now 0 0) (capacity (length x.now)) }
-{
-    slot(x, 0) < 16 * groups(x.len())
-}
-
-// One step more, in bucket b, with its record at `at`.
+// One step more, in bucket b, with its record at `at`; nothing where there is no room.
 pub fn enter_step(x: &mut [u32], b: usize, at: usize)
-    requires { (b < heads_of x.old) × (at ≤ 1048576) × Enterable x.old }
-    ensures { Entered (heads_of x.old) (places_from x.old) (get_or x.old 0 0) x.old b at x.new }
+    requires { (b < heads_of x.old) × (at ≤ 1048576) }
+    ensures { Enters x.old b at x.new }
 {
+    if x.len() < 23 {
+        return;
+    }
     let n = slot(x, 0);
+    if 1048576 <= n {
+        return;
+    }
+    if 16 * groups(x.len()) <= n {
+        return;
+    }
     store(x, n, b, at);
 }
 

@@ -1,4 +1,6 @@
 // A chained index of a ledger's steps in a lent slice of numbers: the lowest equal step without a scan.
+#![tactic(auto)]
+
 mod bucket;
 mod chain;
 mod enter;
@@ -7,13 +9,13 @@ mod marks;
 mod pass;
 
 pub use bucket::bucket_of;
-pub use chain::{find, find_in};
-pub use enter::{count, enter_step, has_room, heads};
+pub use chain::find_in;
+pub use enter::{enter_step, heads};
 pub use marks::{finish, finished};
 pub use pass::build;
 
 // The lowest equal step, or how many steps there are.
-#[derive(Drop)]
+#[derive(Clone, Copy)]
 pub enum Found {
     At(usize),
     Absent(usize),

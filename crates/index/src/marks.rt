@@ -3,14 +3,15 @@ ghost use Rattle.std.specs.Prelude.{◌<◌, length};
 ghost use Rattle.ledger.specs.Ledger.{steps_of};
 ghost use Rattle.index.specs.Index.{Finished, Indexed, Knows};
 
-use crate::{Found, chain, enter};
+use crate::{Found, bucket, chain, enter};
 
 // The lowest cover step with these operands, where its search is finished.
 pub fn finished(l: &[u8], x: &[u32], operands: &[u8]) -> Found
     requires { Indexed l.now x.now }
     ensures { Knows (steps_of l.now) operands.now result }
 {
-    match chain::find(l, x, 6, operands) {
+    let b = bucket::bucket_of(enter::heads(x.len()), 6, operands);
+    match chain::find_in(l, x, b, 6, operands) {
         Found::At(i) => {
             if enter::is_marked(x, i) {
                 return Found::At(i);

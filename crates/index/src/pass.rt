@@ -1,8 +1,8 @@
 // The index of a ledger, in one pass.
-ghost use Rattle.std.specs.Prelude.{◌≡◌, ◌<◌, ◌≤◌, length, replicate};
+ghost use Rattle.std.specs.Prelude.{◌≡◌, ◌<◌, ◌≤◌, ◌-◌, length, replicate};
 ghost use Rattle.std.proofs.lemmas.List.Edits.{sets};
 ghost use Rattle.ledger.specs.Ledger.{steps_of, Led, Points};
-ghost use Rattle.index.specs.Index.{Wide, Indexed, bucket_at};
+ghost use Rattle.index.specs.Index.{Roomy, Indexed, bucket_at};
 
 use crate::{bucket, enter};
 use ledger::Cursor;
@@ -30,7 +30,7 @@ fn bucket_at(c: Cursor, l: &[u8], heads: usize) -> usize
 
 // The index of all steps.
 pub fn build(l: &[u8], x: &mut [u32])
-    requires { Led l.now × Wide x.old (length (steps_of l.now)) }
+    requires { Led l.now × Roomy l.now x.old }
     ensures { Indexed l.now x.new }
 {
     let h = enter::heads(x.len());

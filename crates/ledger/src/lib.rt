@@ -1,4 +1,6 @@
 // A ledger's bytes, read: a length, records, zeros.
+#![tactic(auto)]
+
 mod check;
 pub mod places;
 mod steps;
@@ -14,14 +16,14 @@ pub use check::well_formed;
 pub use steps::{seek, used};
 
 // What bytes are found to be: a ledger with so many steps, or none (refusal 1).
-#[derive(Drop)]
+#[derive(Clone, Copy)]
 pub enum Checked {
     Steps(usize),
     Ill,
 }
 
 // A step of a ledger: its number, and where its record begins.
-#[derive(Drop)]
+#[derive(Clone, Copy)]
 pub struct Cursor {
     pub step: usize,
     pub at: usize,

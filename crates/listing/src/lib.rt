@@ -1,4 +1,6 @@
 // The steps of a ledger as lines (document 01, "Text and listing").
+#![tactic(auto)]
+
 mod judgements;
 mod lines;
 

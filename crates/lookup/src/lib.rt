@@ -1,4 +1,6 @@
 // Looking a step of a ledger up by its number: where its judgement stands, its kind, and what it refers to.
+#![tactic(auto)]
+
 ghost use Rattle.std.specs.Prelude.{◌≡◌, true, ◌<◌, ltb, length};
 ghost use Rattle.calculus.specs.Parse.{operands_at};
 ghost use Rattle.ledger.specs.Ledger.{steps_of, Led};
@@ -9,7 +11,7 @@ use refusals::Refusal;
 use text::Length;
 
 // A part of a ledger: where it begins, and how many bytes it has.
-#[derive(Drop)]
+#[derive(Clone, Copy)]
 pub struct Part {
     pub start: usize,
     pub len: usize,

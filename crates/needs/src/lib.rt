@@ -1,4 +1,6 @@
 // How many dimensions a face still needs, of a state in the search for an assignment.
+#![tactic(auto)]
+
 mod marks;
 mod weights;
 
@@ -7,7 +9,7 @@ pub use weights::weigh;
 
 // What a face needs at least, one dimension and side that may be chosen for it, whether the face holds nowhere without,
 // and the place behind it. Nothing is proved of `forced`: it only says what to choose first.
-#[derive(Drop)]
+#[derive(Clone, Copy)]
 pub struct Weight {
     pub weight: usize,
     pub dim: usize,
@@ -17,7 +19,7 @@ pub struct Weight {
 }
 
 // Whether something was found in a face, and the place behind the face.
-#[derive(Drop)]
+#[derive(Clone, Copy)]
 struct Seen {
     at: usize,
     found: bool,

@@ -1,4 +1,6 @@
 // Normal forms of faces. tools/normal/cases.py writes the input, and says what is to be printed.
+#![tactic(auto)]
+
 use normal::Normalised;
 
 // 255 in every byte.

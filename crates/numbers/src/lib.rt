@@ -1,4 +1,6 @@
 // Answers as one number (specs/Answers): a refusal is negative.
+#![tactic(auto)]
+
 ghost use Rattle.std.specs.Prelude.{◌≡◌, ◌<◌};
 ghost use Rattle.refusals.specs.Refusals.{said_counted};
 ghost use Rattle.calculus.specs.Door.{refused as refused_by};

@@ -8,9 +8,6 @@ use mathlib.Core.List.{List, [], ◌∷◌, ◌++◌, append_assoc, append-nil}
 use lib.ListN.{length, get_or, set, length-append}
 use lib.Seq.{sets, length-sets}
 use borrow.Author.Tests.{eq-eqb, ne_eqb}
-use types.Run.{OneOf, miss}
-use denote.Enum.Declared.{tag_of}
-use Rattle.formula.specs.contracts.Advance.{the_type}
 use Rattle.formula.specs.Formula.{beside}
 use Rattle.formula.specs.Bytes.{Tree}
 use Rattle.formula.specs.Answers.{dim_space, kind_of, tree_of, step_of}
@@ -98,10 +95,10 @@ pub small-weight : (s : Sort) (rule : Rule) (hit : Size) → Small hit → (t : 
 small-weight s rule hit h (plain b) = small_plain rule (kind_of s b)
 small-weight s rule hit h (literal b n) = small-moved (moved_to rule n) hit h
 
--- a step over no literal, by its variant
-pub plain_over : (b : ℕ) (x : Advance) → OneOf (0 ∷ 2 ∷ 3 ∷ 4 ∷ []) (tag_of the_type x) → token_over b x ≡ plain b
+-- a step over no literal
+pub plain_over : (b : ℕ) (x : Advance) → ((q : Place) (n : ℕ) → x ≡ Lit q n → ⊥) → token_over b x ≡ plain b
 plain_over b (Leaf q) h = refl
-plain_over b (Lit q n) h = absurd (miss (0 ∷ 2 ∷ 3 ∷ 4 ∷ []) 1 tt h)
+plain_over b (Lit q n) h = absurd (h q n refl)
 plain_over b (One q) h = refl
 plain_over b (Two q) h = refl
 plain_over b Stuck h = refl

@@ -1,4 +1,6 @@
 // One pass over the nodes of a formula: the size of what it becomes, and the bytes.
+#![tactic(auto)]
+
 mod rewriting;
 mod sides;
 mod weighing;
@@ -9,7 +11,7 @@ pub use weighing::{place_by, weigh};
 
 // What a pass does to the dimensions: raises those from k on; lowers those above k and replaces k itself; or makes the
 // faces of a boundary.
-#[derive(Drop)]
+#[derive(Clone, Copy)]
 pub enum Rule {
     Up(usize),
     Down(usize),
@@ -17,7 +19,7 @@ pub enum Rule {
 }
 
 // Where a dimension goes: to another, or it is the one that is replaced.
-#[derive(Drop)]
+#[derive(Clone, Copy)]
 pub enum Moved {
     To(usize),
     Hit,

@@ -1,12 +1,10 @@
 -- What is asked, once it is known which program it is; and the room of an index.
 use mathlib.Core.Path.{◌≡◌, sym, subst}
 use mathlib.Core.List.{List}
-use Prim.Native.Nat.{ℕ, ◌*◌, ◌≤◌}
+use Prim.Native.Nat.{ℕ, ◌-◌, ◌*◌, ◌/◌, ◌≤◌}
 use native.Mathlib.Omega.{arith}
 use lib.ListN.{length, replicate, length-replicate}
-use Rattle.ledger.specs.Ledger.{steps_of, Led}
-use Rattle.index.specs.Index.{capacity, Wide}
-use Rattle.index.proofs.RoomLaws.{holds-eight}
+use Rattle.index.specs.Index.{Roomy}
 use Rattle.steps.specs.declared.Ran.{Ran}
 use Rattle.steps.specs.Running.{Book, Runs}
 use Rattle.programs.specs.declared.Program.{Program}
@@ -18,10 +16,6 @@ ready a b c e k h = subst (λ (z : Program). Ready z a b c e) k h
 pub asked-runs : {p q : Program} {l l' : Book} {r : Ran} (a b : List ℕ) → p ≡ q → Runs l (program_of q a b) r l' → Runs l (program_of p a b) r l'
 asked-runs {l = l} {l' = l'} {r = r} a b k h = subst (λ (z : Program). Runs l (program_of z a b) r l') (sym k) h
 
--- A new index of n numbers has room for a ledger of eight bytes to a step, and for its steps.
-module _ {l : List ℕ} (h : Led l) (n m : ℕ) (short : length l ≤ m) (room : m ≤ 8 * capacity n) where
-  pub wide : Wide (replicate n 0) (length (steps_of l))
-  wide = (omega (arith, length-replicate {A = ℕ} n 0, holds-eight h), omega (arith, length-replicate {A = ℕ} n 0, holds-eight h))
-
-  pub roomy : (x : List ℕ) → length x ≡ length (replicate {A = ℕ} n 0) → length l ≤ 8 * capacity (length x)
-  roomy x e = omega (arith, length-replicate {A = ℕ} n 0)
+-- An index of n numbers has room for a ledger of 128 bytes to a group.
+pub roomy : (l : List ℕ) (n m : ℕ) → length l ≤ m → m ≤ 128 * ((n - 2) / 21) → Roomy l (replicate n 0)
+roomy l n m h k = omega (arith, length-replicate {A = ℕ} n 0)

@@ -1,4 +1,6 @@
 // Every program of a call, run with an index of the ledger that is made for it and dropped with it.
+#![tactic(auto)]
+
 mod arrays;
 mod emitters;
 
@@ -7,7 +9,7 @@ use formula::Sort;
 use operations::Op;
 
 // What is asked: all dimensions of a formula below a number; entails and endpoint over a number; boundary; forall of a dimension; a transformation.
-#[derive(Drop)]
+#[derive(Clone, Copy)]
 pub enum Program {
     Bounded(Sort, usize),
     Entails(usize),

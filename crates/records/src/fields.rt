@@ -10,7 +10,7 @@ use formula::{Measured, Size, Sort};
 use kinds::Field;
 
 // Where a reading ends, or that there is none.
-#[derive(Drop)]
+#[derive(Clone, Copy)]
 pub(crate) enum End {
     To(usize),
     Ill,

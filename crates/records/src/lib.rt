@@ -1,4 +1,6 @@
 // Records of a ledger: little-endian numbers, and whether bytes are the body of a step.
+#![tactic(auto)]
+
 mod body;
 mod fields;
 mod numbers;

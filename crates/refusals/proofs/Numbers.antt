@@ -5,12 +5,12 @@ use mathlib.Core.Path.{◌≡◌, refl, sym, ap, ◌∙◌}
 use mathlib.Core.List.{[], ◌∷◌}
 use lib.ListN.{get_or}
 use Rattle.refusals.specs.declared.Refusal.{Refusal}
-use Rattle.refusals.specs.declared.Refusal.TheVariants.{IllFormedLedger, NotAFormula, TooManyNodes, LargeDimension, LargeResult, ShortOutput, FullLedger, NotBelow, NotImplied, DoesNotFollow, NotAccepted, Implied, BeyondProducer, BeyondSearch, TooManySteps}
+use Rattle.refusals.specs.declared.Refusal.TheVariants.{IllFormedLedger, NotAFormula, TooManyNodes, LargeDimension, LargeResult, ShortOutput, FullLedger, NotBelow, NotImplied, DoesNotFollow, NotAccepted, Implied, BeyondProducer}
 use Rattle.refusals.specs.Refusals.{number}
 
 -- Back from a number.
 numbered : ℕ → Refusal
-numbered n = get_or (IllFormedLedger ∷ IllFormedLedger ∷ NotAFormula ∷ TooManyNodes ∷ LargeDimension ∷ LargeResult ∷ ShortOutput ∷ FullLedger ∷ NotBelow ∷ NotImplied ∷ DoesNotFollow ∷ NotAccepted ∷ Implied ∷ BeyondProducer ∷ BeyondSearch ∷ []) n TooManySteps
+numbered n = get_or (IllFormedLedger ∷ IllFormedLedger ∷ NotAFormula ∷ TooManyNodes ∷ LargeDimension ∷ LargeResult ∷ ShortOutput ∷ FullLedger ∷ NotBelow ∷ NotImplied ∷ DoesNotFollow ∷ NotAccepted ∷ Implied ∷ []) n BeyondProducer
 
 back : (e : Refusal) → numbered (number e) ≡ e
 unfolding numbered
@@ -27,8 +27,6 @@ back DoesNotFollow = refl
 back NotAccepted = refl
 back Implied = refl
 back BeyondProducer = refl
-back BeyondSearch = refl
-back TooManySteps = refl
 
 pub number-one : (e q : Refusal) → number e ≡ number q → e ≡ q
 number-one e q h = sym (back e) ∙ ap numbered h ∙ back q
@@ -48,5 +46,3 @@ number-range DoesNotFollow = (omega arith, omega arith)
 number-range NotAccepted = (omega arith, omega arith)
 number-range Implied = (omega arith, omega arith)
 number-range BeyondProducer = (omega arith, omega arith)
-number-range BeyondSearch = (omega arith, omega arith)
-number-range TooManySteps = (omega arith, omega arith)

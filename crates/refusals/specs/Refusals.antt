@@ -1,7 +1,7 @@
 -- Refusals: document 01's numbers, and what is answered where something may be refused.
 use Rattle.std.specs.Prelude.{ℕ, Bool, true, false, leb}
 use Rattle.refusals.specs.declared.Refusal.{Refusal}
-use Rattle.refusals.specs.declared.Refusal.TheVariants.{IllFormedLedger, NotAFormula, TooManyNodes, LargeDimension, LargeResult, ShortOutput, FullLedger, NotBelow, NotImplied, DoesNotFollow, NotAccepted, Implied, BeyondProducer, BeyondSearch, TooManySteps}
+use Rattle.refusals.specs.declared.Refusal.TheVariants.{IllFormedLedger, NotAFormula, TooManyNodes, LargeDimension, LargeResult, ShortOutput, FullLedger, NotBelow, NotImplied, DoesNotFollow, NotAccepted, Implied, BeyondProducer}
 use Rattle.refusals.specs.declared.Counted.{Counted}
 use Rattle.refusals.specs.declared.Counted.TheVariants.{Number, Refused}
 
@@ -20,8 +20,6 @@ number DoesNotFollow = 10
 number NotAccepted = 11
 number Implied = 12
 number BeyondProducer = 13
-number BeyondSearch = 14
-number TooManySteps = 15
 
 -- The one with the lower number: the first no decides.
 abbrev pub earlier : Refusal → Refusal → Refusal

@@ -1,9 +1,11 @@
 // Refusals and document 01's numbers.
+#![tactic(auto)]
+
 ghost use Rattle.std.specs.Prelude.{◌≡◌};
 ghost use Rattle.refusals.specs.Refusals.{number as number_of, earlier as earlier_of};
 
 // Why something is refused (document 01, "Questions at the door"; from Implied on document 02).
-#[derive(Drop)]
+#[derive(Clone, Copy)]
 pub enum Refusal {
     IllFormedLedger,
     NotAFormula,
@@ -18,12 +20,10 @@ pub enum Refusal {
     NotAccepted,
     Implied,
     BeyondProducer,
-    BeyondSearch,
-    TooManySteps,
 }
 
 // A number that was asked for, or why it is refused.
-#[derive(Drop)]
+#[derive(Clone, Copy)]
 pub enum Counted {
     Number(usize),
     Refused(Refusal),
@@ -47,8 +47,6 @@ pub fn number(r: Refusal) -> usize
         Refusal::NotAccepted => 11,
         Refusal::Implied => 12,
         Refusal::BeyondProducer => 13,
-        Refusal::BeyondSearch => 14,
-        Refusal::TooManySteps => 15,
     }
 }
 

@@ -1,4 +1,6 @@
 // The repeat test on pairs of ledgers. tools/repeats/cases.py writes the input, and says what is to be printed.
+#![tactic(auto)]
+
 ghost use Rattle.std.specs.Prelude.{◌≤◌};
 ghost use Rattle.io.specs.Counts.{IsPrefixLen};
 

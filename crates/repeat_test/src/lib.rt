@@ -1,4 +1,6 @@
 // The repeat test: whether two ledgers end in the same claim (document 01, "Normal form and repeat test").
+#![tactic(auto)]
+
 ghost use Rattle.std.specs.Prelude.{◌≡◌};
 ghost use Rattle.std.proofs.Math.Bool.{decide};
 ghost use Rattle.calculus.specs.Rules.{judgement_at};
@@ -13,7 +15,7 @@ use ledger::{Checked, Cursor};
 use refusals::Refusal;
 
 // Whether two ledgers repeat each other, or why they are refused.
-#[derive(Drop)]
+#[derive(Clone, Copy)]
 pub enum Compared {
     Repeats,
     Fresh,

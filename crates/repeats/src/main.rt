@@ -1,4 +1,6 @@
 // Says whether the ledgers in two files repeat each other.
+#![tactic(auto)]
+
 ghost use Rattle.io.specs.Counts.{IsPrefixLen};
 
 use repeat_test::Compared;

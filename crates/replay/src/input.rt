@@ -1,14 +1,14 @@
 // What standard input says of a call.
 
 // A sum of bytes: each half is below 65,521.
-#[derive(Drop)]
+#[derive(Clone, Copy)]
 pub struct Sums {
     pub a: usize,
     pub b: usize,
 }
 
 // A call and what is expected of it. The answer is the refusal, or 16 and the step's number.
-#[derive(Drop)]
+#[derive(Clone, Copy)]
 pub struct Heading {
     pub kind: u8,
     pub one: u8,

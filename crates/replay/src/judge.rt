@@ -3,7 +3,7 @@ use crate::input::{Heading, Sums};
 use crate::lend::FILL;
 
 // An answer: the step's number or the refusal's, and the result's length.
-#[derive(Drop)]
+#[derive(Clone, Copy)]
 pub struct Said {
     pub yes: bool,
     pub number: usize,

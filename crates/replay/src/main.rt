@@ -1,5 +1,7 @@
 // The stored sample of the published Rust: standard input has lists of calls with its answers (tools/replay/encode.py writes it).
 // Each list is asked of the engine from an empty ledger. A line for each difference, then how much was compared.
+#![tactic(auto)]
+
 mod input;
 mod judge;
 mod lend;

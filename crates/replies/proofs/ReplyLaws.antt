@@ -18,12 +18,14 @@ use Rattle.calculus.specs.Door.{Call, Item, item, Task, task_of, outputs_of, mea
 use Rattle.calculus.proofs.Doors.{ItemsKeep, turned-away, comes-to-run}
 use Rattle.calculus.proofs.Records.{read-ledger}
 use Rattle.calculus.proofs.Rooms.{size-extends}
+use Rattle.calculus.proofs.Growing.{Extends}
 use Rattle.ledger.specs.Ledger.{steps_of, Led}
 use Rattle.emission.specs.Emitting.{Undone}
+use Rattle.ledger.proofs.LedgerLaws.{holds-steps}
 use Rattle.steps.specs.declared.Ran.{Ran}
 use Rattle.steps.specs.declared.Ran.TheVariants.{Done, NotBelow, NotImplied, Full}
-use Rattle.steps.specs.Running.{book, Leaves, Ends, left_of, RunsOn}
-use Rattle.steps.proofs.RunLaws.{runs-led, runs-long, runs-extends, on-ends}
+use Rattle.steps.specs.Running.{book, Leaves, Ends, RunsOn}
+use Rattle.steps.proofs.RunLaws.{runs-grew, runs-led}
 use Rattle.replies.specs.declared.Called.{Called}
 use Rattle.replies.specs.declared.Called.TheVariants.{Step as Number, Refused}
 use Rattle.replies.specs.Replying.{said, Replies}
@@ -39,10 +41,13 @@ finished outs rs (Refused e) l = refuse e l outs
 module _ {l l₁ : List ℕ} {p : Program} {r : Ran} {end : ℕ} (d : Led l) (h : RunsOn l p r l₁) (e : end ≡ size (steps_of l)) where
   -- A run leaves the used bytes behind it, so that they can be gone back to.
   pub end-inside : Led l₁ × (4 ≤ end) × (end ≤ size (steps_of l₁))
-  end-inside = ((runs-led h.runs).led, omega (arith, e), omega (arith, e, size-extends (runs-extends h.runs)))
+  end-inside =
+      let g = runs-grew h.runs in
+      let x : Extends (steps_of l) (steps_of l₁) = record { more = g.more; whole = holds-steps g.leaves.holds } in
+      ((runs-led h.runs).led, omega (arith, e), omega (arith, e, size-extends x))
 
   pub ended : {l₂ : List ℕ} {a : Called} → Ending l₁ end r a l₂ → (outs : List (List ℕ)) (rs : List Item) → concluded l outs rs (run (within (length l)) p (steps_of l)) ≡ finished outs rs a l₂
-  ended {l₂} {a} k outs rs = go (run (within (length l)) p (steps_of l)) (on-ends h)
+  ended {l₂} {a} k outs rs = go (run (within (length l)) p (steps_of l)) h.runs.ends
     where
       -- The answer b with the ledger that holds M.
       as-left : (b : Called) (M : List Step) → Leaves (book l h.before) M (book l₁ h.after) → (a ≡ b) × (l₂ ≡ l₁) → finished outs rs b (ledger_bytes (length l) M) ≡ finished outs rs a l₂
@@ -50,15 +55,15 @@ module _ {l l₁ : List ℕ} {p : Program} {r : Ran} {end : ℕ} (d : Led l) (h 
           let u : ledger_bytes (length l) M ≡ l₂ = ap (λ (n : ℕ). ledger_bytes n M) (sym v.long) ∙ sym v.holds.bytes ∙ sym k.1 in
           ap (finished outs rs b) u ∙ ap (λ (x : Called). finished outs rs x l₂) (sym k.0)
 
-      go : (o : Outcome) → Ends (book l h.before) o (left_of (book l h.before) p) r (book l₁ h.after) → concluded l outs rs o ≡ finished outs rs a l₂
+      go : (o : Outcome) → Ends (book l h.before) o r (book l₁ h.after) → concluded l outs rs o ≡ finished outs rs a l₂
       go (done n M) x = as-left (Number n) M x.1 (subst (λ (s : Ran). EndingBy l₁ end s a l₂) x.0 k.by)
       go (stopped not-below M) x = as-left (Refused below) M x.1 (subst (λ (s : Ran). EndingBy l₁ end s a l₂) x.0 k.by)
       go (stopped not-implied M) x = as-left (Refused implied) M x.1 (subst (λ (s : Ran). EndingBy l₁ end s a l₂) x.0 k.by)
       go full x =
           let k' = subst (λ (s : Ran). EndingBy l₁ end s a l₂) x.0 k.by in
-          let g = runs-extends h.runs in
-          let u : l₂ ≡ ledger_bytes (length l₁) (steps_of l) = k'.1 (steps_of l) g.more g.whole e in
-          let v : l ≡ l₂ = d.bytes ∙ ap (λ (n : ℕ). ledger_bytes n (steps_of l)) (sym (runs-long h.runs)) ∙ sym u in
+          let g = x.1 in
+          let u : l₂ ≡ ledger_bytes (length l₁) (steps_of l) = k'.1 (steps_of l) g.more (holds-steps g.leaves.holds) e in
+          let v : l ≡ l₂ = d.bytes ∙ ap (λ (n : ℕ). ledger_bytes n (steps_of l)) (sym g.leaves.long) ∙ sym u in
           ap (finished outs rs (Refused FullLedger)) v ∙ ap (λ (x : Called). finished outs rs x l₂) (sym k'.0)
 
 -- The endings of the code.

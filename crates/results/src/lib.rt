@@ -1,4 +1,6 @@
 // The calls with results once questions 1 to 4 are answered: the results, questions 5 and 6, the run, and what it is answered with.
+#![tactic(auto)]
+
 mod boundaries;
 mod foralls;
 mod substitutions;

@@ -1,5 +1,7 @@
 // The rules of the calculus, a judgement to a line: the conclusion of each rule, then its premises in order. A judgement is its
 // predicate and its operands as document 01 prints them; a line has ten tokens.
+#![tactic(auto)]
+
 ghost use Rattle.std.specs.Prelude.{◌≡◌, ◌/◌, ◌%◌, ◌<◌, get_or};
 ghost use Rattle.calculus.proofs.Rows.{rows};
 ghost use Rattle.rows.specs.Flattening.{line_at, row_starts, Inside, Tabled};

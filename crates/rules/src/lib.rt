@@ -1,4 +1,6 @@
 // Whether a judgement follows from others by a rule: one pass over a row of tokens, with a cursor in the operands of a step and of its references, all in one ledger.
+#![tactic(auto)]
+
 mod reach;
 mod slots;
 mod tokens;
@@ -11,7 +13,7 @@ ghost use Rattle.rules.specs.Matching.{claims, Matched, Some, Placed, Turns, Beg
 ghost use Rattle.rows.specs.Flattening.{row_items, Tabled};
 
 // Where the cursor stands: at `at` in the operands of a judgement that end at `end`; j judgements have begun, `left` faces of a context are to come.
-#[derive(Drop)]
+#[derive(Clone, Copy)]
 struct State {
     at: usize,
     end: usize,
@@ -19,7 +21,7 @@ struct State {
     j: usize,
 }
 
-#[derive(Drop)]
+#[derive(Clone, Copy)]
 enum Turn {
     To(State),
     No,

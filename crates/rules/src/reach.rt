@@ -4,7 +4,7 @@ ghost use Rattle.rules.specs.Matching.{Thing, Ends, Formula, Faces};
 
 use formula::{Measured, Sort};
 
-#[derive(Drop)]
+#[derive(Clone, Copy)]
 pub(crate) enum Ending {
     At(usize),
     Nowhere,

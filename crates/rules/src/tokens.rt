@@ -6,7 +6,7 @@ ghost use Rattle.rules.specs.Matching.{Some, Moves, MovesOnly};
 use crate::{reach, slots};
 
 // The cursor behind the token, and how many faces of a context are left; or no way on.
-#[derive(Drop)]
+#[derive(Clone, Copy)]
 pub(crate) enum Next {
     Move(usize, usize),
     Stop,

@@ -1,4 +1,6 @@
 // The calls without results once questions 1 to 4 are answered: the run, and what it is answered with.
+#![tactic(auto)]
+
 mod bounds;
 mod entailments;
 

@@ -1,13 +1,13 @@
 -- Finished searches: one that was done is finished, and one that is finished need not be made again.
 use Prim.Native.Nat.{ℕ}
-use mathlib.Core.Path.{◌≡◌, refl, sym, ◌∙◌, subst}
+use mathlib.Core.Path.{◌≡◌, refl, sym, subst}
 use mathlib.Core.List.{List}
 use lib.ListN.{length}
 use Rattle.formula.specs.declared.Sort.TheVariants.{Faces}
 use Rattle.formula.specs.Formula.{Face}
 use Rattle.calculus.specs.Judgement.{Step, cover}
 use Rattle.calculus.specs.Rules.{judgement_at}
-use Rattle.calculus.specs.Emit.{Program, Outcome, done, stopped, full}
+use Rattle.calculus.specs.Emit.{Program, Outcome, done, stopped, full, within, run}
 use Rattle.calculus.specs.Calls.{emit_cover}
 use Rattle.calculus.proofs.Finding.{find-lowest}
 use Rattle.calculus.proofs.Growing.{Good, claims, leaves, no_room}
@@ -19,9 +19,9 @@ use Rattle.index.specs.Index.{Indexed}
 use Rattle.index.proofs.MarkLaws.{finished-done}
 use Rattle.steps.specs.declared.Ran.{Ran}
 use Rattle.steps.specs.declared.Ran.TheVariants.{Done}
-use Rattle.steps.specs.Running.{Book, book, Kept, step_by, room_of, Leaves, Ends, outcome_of, left_of, Runs}
+use Rattle.steps.specs.Running.{Book, book, Kept, step_by, Ends, Runs}
 use Rattle.steps.specs.Trees.{Is}
-use Rattle.steps.proofs.RunLaws.{runs-below, runs_done, leaves_all}
+use Rattle.steps.proofs.RunLaws.{runs-below, runs_done}
 use Rattle.contexts.specs.Contexts.{Are}
 use Rattle.contexts.specs.Moves.{Settled}
 use Rattle.search.specs.Turns.{Ended}
@@ -41,25 +41,22 @@ ended {G} {g} w a {l} {l'} {r} h = record {
   finished = λ d.
       let L = steps_of l.bytes in
       let M = steps_of l'.bytes in
-      finished-done (room_of l) L M (step_by r) G g (runs_done h d)
-      (judges G g L M (step_by r) (outcome_of l (emit_cover G g)) (cover-good (room_of l) G g w.few w.low a.few a.low L) (runs_done h d));
+      finished-done (within (length l.bytes)) L M (step_by r) G g (runs_done h d)
+      (judges G g L M (step_by r) (run (within (length l.bytes)) (emit_cover G g) L) (cover-good (within (length l.bytes)) G g w.few w.low a.few a.low L) (runs_done h d));
 }
 
 -- The same ledger with another index of it.
-module _ (l : Book) (m x y : List ℕ) (k : Indexed m y) (n : length y ≡ length x) (r : Ran) where
-  other : {M : List Step} → Leaves l M (book m x) → Leaves l M (book m y)
-  other v = record { long = v.long; wide = n ∙ v.wide; holds = v.holds; kept = k }
+module _ (l : Book) (m x y : List ℕ) (k : Indexed m y) (r : Ran) where
+  reindexed : (o : Outcome) → Ends l o r (book m x) → Ends l o r (book m y)
+  reindexed (done n M) e = (e.0, record { long = e.1.long; holds = e.1.holds; kept = k })
+  reindexed (stopped f M) e = (e.0, record { long = e.1.long; holds = e.1.holds; kept = k })
+  reindexed full e = (e.0, record { more = e.1.more; leaves = record { long = e.1.leaves.long; holds = e.1.leaves.holds; kept = k } })
 
-  reindexed : (o : Outcome) (Z : List Step) → Ends l o Z r (book m x) → Ends l o Z r (book m y)
-  reindexed (done n M) Z e = (e.0, other e.1)
-  reindexed (stopped f M) Z e = (e.0, other e.1)
-  reindexed full Z e = (e.0, other e.1)
-
-pub marked-runs : {l : Book} {p : Program} {m x y : List ℕ} {r : Ran} → Runs l p r (book m x) → Indexed m y → length y ≡ length x → Runs l p r (book m y)
-marked-runs {l} {p} {m} {x} {y} {r} h k n = record { ends = reindexed l m x y k n r (outcome_of l p) (left_of l p) h.ends }
+pub marked-runs : {l : Book} {p : Program} {m x y : List ℕ} {r : Ran} → Runs l p r (book m x) → Indexed m y → Runs l p r (book m y)
+marked-runs {l} {p} {m} {x} {y} {r} h k = record { ends = reindexed l m x y k r (run (within (length l.bytes)) p (steps_of l.bytes)) h.ends }
 
 -- A search that is finished: nothing is appended.
 pub settled-runs : {l : Book} → Kept l → (G : List Face) (g : Face) {f : Found} {i : ℕ} → f ≡ At i → Settled (steps_of l.bytes) G g f → Runs l (emit_cover G g) (Done i) l
 settled-runs {l} k G g {i = i} e s =
     let w : Settled (steps_of l.bytes) G g (At i) = subst (λ (q : Found). Settled (steps_of l.bytes) G g q) e s in
-    record { ends = subst (λ (o : Outcome). Ends l o (left_of l (emit_cover G g)) (Done i) l) (sym (w (room_of l))) (refl, leaves_all k) }
+    record { ends = subst (λ (o : Outcome). Ends l o (Done i) l) (sym (w (within (length l.bytes)))) (refl, record { long = refl; holds = k.led; kept = k }) }

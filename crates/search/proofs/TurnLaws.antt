@@ -12,17 +12,15 @@ use Rattle.formula.specs.Answers.{part_at, tree_of}
 use Rattle.calculus.specs.Search.{Move, by-top, by-hit, by-absurd, by-clash, stuck, ◌else◌, provided, has, try_top, try_clash, split_of, try_left, try_right, move}
 use Rattle.calculus.specs.Record.{faces_bytes, bound_context}
 use Rattle.calculus.proofs.Searching.{Moves, is-clash, Refuted, move-view}
-use Rattle.obligations.specs.Obligations.{guarded_move}
-use Rattle.obligations.proofs.Moving.{guarded-view}
 use Rattle.steps.specs.Trees.{Is}
 use Rattle.steps.proofs.TreeLaws.{tree-of}
 use Rattle.contexts.specs.declared.moves.Clash.{Clash}
 use Rattle.contexts.specs.declared.moves.Clash.TheVariants.{Of, Free}
 use Rattle.contexts.specs.Contexts.{Are}
-use Rattle.contexts.specs.Moves.{clash_by, starting, compound, split_at, FirstCompound}
+use Rattle.contexts.specs.Moves.{clash_by, compound, split_at, FirstCompound}
 use Rattle.search.specs.declared.turns.Turn.{Turn}
 use Rattle.search.specs.declared.turns.Turn.TheVariants.{Top, Hit, Absurd, Opposed, AndLeft, OrLeft, AndRight, OrRight, Stuck}
-use Rattle.search.specs.Turns.{move_by, Parts, Split, Turns, tops, hits, absurds, opposes, splits-and, splits-or, asks_both, asks-either, stays}
+use Rattle.search.specs.Turns.{Parts, Split, Turns, tops, hits, absurds, opposes, splits-and, splits-or, asks_both, asks-either, stays}
 use Rattle.contexts.proofs.LeftLaws.{at_of}
 use Rattle.contexts.proofs.MoveLaws.{kind, first_byte}
 use Rattle.contexts.proofs.ClosingLaws.{ff-is}
@@ -137,34 +135,26 @@ unfolding bound_face
 literal-low m = low-member m
 
 -- The dimension of a clash in a context that keeps the limits.
-by-view : (z : Bool) (G : List Face) (q : Face) → Moves (Refuted G q) G q (move_by z G q)
-by-view true G q = guarded-view G q
-by-view false G q = move-view G q
-
-clash-low : {G : List Face} {n : ℕ} {g : List ℕ} {k : ℕ} (z : Bool) (q : Face) → Are G n g → move_by z G q ≡ by-clash k → k < 255
-clash-low {G} {k = k} z q w e = go (subst (Moves (Refuted G q) G q) e (by-view z G q))
+clash-low : {G : List Face} {n : ℕ} {g : List ℕ} {k : ℕ} (q : Face) → Are G n g → move G q ≡ by-clash k → k < 255
+clash-low {G} {k = k} q w e = go (subst (Moves (Refuted G q) G q) e (move-view G q))
   where
     go : Moves (Refuted G q) G q (by-clash k) → k < 255
     go (is-clash m o) = omega (arith, literal-low m, w.low)
 
--- Both searches have the same tries but for the clash.
-module _ (b : Bool) {G : List Face} {n : ℕ} {g : List ℕ} {q : Face} {y : List ℕ} (w : Are G n g) (a : Is Faces q y) where
-  tries : (z : Bool) → move_by z G q ≡ (try_top q else provided (has q G) by-hit else provided (has ff G) by-absurd else try_clash G (starting z G) else try_left [] G else try_right q)
-  unfolding move guarded_move
-  tries true = refl
-  tries false = refl
-
-  pub top-turn : get_or y 0 0 ≡ 1 → Turns G q (move_by b G q) Top
+module _ {G : List Face} {n : ℕ} {g : List ℕ} {q : Face} {y : List ℕ} (w : Are G n g) (a : Is Faces q y) where
+  pub top-turn : get_or y 0 0 ≡ 1 → Turns G q (move G q) Top
+  unfolding move
   top-turn e =
       let t : q ≡ ft = top-kind q (sym (first_byte a) ∙ e) in
-      tops t (tries b ∙ ap (λ (m : Move). m else provided (has q G) by-hit else provided (has ff G) by-absurd else try_clash G (starting b G) else try_left [] G else try_right q) (ap try_top t))
+      tops t (ap (λ (m : Move). m else provided (has q G) by-hit else provided (has ff G) by-absurd else try_clash G G else try_left [] G else try_right q) (ap try_top t))
 
   module _ (e : get_or y 0 0 ≡ 1 → ⊥) where
     open-top : try_top q ≡ stuck
     open-top = not_top q (λ c. e (first_byte a ∙ c))
 
-    pub hit-turn : {r : Bool} → r ≡ has q G → r ≡ true → Turns G q (move_by b G q) Hit
-    hit-turn h t = let u : has q G ≡ true = sym h ∙ t in hits (tries b ∙ rw (open-top, u))
+    pub hit-turn : {r : Bool} → r ≡ has q G → r ≡ true → Turns G q (move G q) Hit
+    unfolding move
+    hit-turn h t = let u : has q G ≡ true = sym h ∙ t in hits (rw (open-top, u))
 
     module _ {r : Bool} (h : r ≡ has q G) (f : r ≡ false) {z : List ℕ} {s : Bool} (o : z ≡ 0 ∷ []) (h₂ : s ≡ has (tree_of Faces z) G) where
       miss : has q G ≡ false
@@ -173,17 +163,19 @@ module _ (b : Bool) {G : List Face} {n : ℕ} {g : List ℕ} {q : Face} {y : Lis
       lies : has ff G ≡ s
       lies = sym (h₂ ∙ ap (λ (x : Face). has x G) (tree-of (ff-is o)))
 
-      pub absurd-turn : s ≡ true → Turns G q (move_by b G q) Absurd
-      absurd-turn t = let u : has ff G ≡ true = lies ∙ t in let v = open-top in let x = miss in absurds (tries b ∙ rw (v, x, u))
+      pub absurd-turn : s ≡ true → Turns G q (move G q) Absurd
+      unfolding move
+      absurd-turn t = let u : has ff G ≡ true = lies ∙ t in let v = open-top in let x = miss in absurds (rw (v, x, u))
 
       module _ (t : s ≡ false) where
-        rest : (c : Clash) → clash_by c ≡ try_clash G (starting b G) → move_by b G q ≡ (clash_by c else try_left [] G else try_right q)
-        rest c h₃ = let u : has ff G ≡ false = lies ∙ t in let v = open-top in let x = miss in let i = sym h₃ in tries b ∙ rw (v, x, u, i)
+        rest : (c : Clash) → clash_by c ≡ try_clash G G → move G q ≡ (clash_by c else try_left [] G else try_right q)
+        unfolding move
+        rest c h₃ = let u : has ff G ≡ false = lies ∙ t in let v = open-top in let x = miss in let i = sym h₃ in rw (v, x, u, i)
 
-        pub opposed-turn : {c : Clash} {k : ℕ} → clash_by c ≡ try_clash G (starting b G) → c ≡ Of k → Turns G q (move_by b G q) (Opposed k)
-        opposed-turn {c} {k} h₃ i = let m : move_by b G q ≡ by-clash k = rest c h₃ ∙ ap (λ (x : Clash). clash_by x else try_left [] G else try_right q) i in opposes (clash-low b q w m) m
+        pub opposed-turn : {c : Clash} {k : ℕ} → clash_by c ≡ try_clash G G → c ≡ Of k → Turns G q (move G q) (Opposed k)
+        opposed-turn {c} {k} h₃ i = let m : move G q ≡ by-clash k = rest c h₃ ∙ ap (λ (x : Clash). clash_by x else try_left [] G else try_right q) i in opposes (clash-low q w m) m
 
-        pub split-turn : {c : Clash} {k : Turn} → clash_by c ≡ try_clash G (starting b G) → c ≡ Free → Turns G q (try_left [] G else try_right q) k → Turns G q (move_by b G q) k
+        pub split-turn : {c : Clash} {k : Turn} → clash_by c ≡ try_clash G G → c ≡ Free → Turns G q (try_left [] G else try_right q) k → Turns G q (move G q) k
         split-turn {c} {k} h₃ i v =
             subst (λ (m : Move). Turns G q m k) (sym (rest c h₃ ∙ ap (λ (x : Clash). clash_by x else try_left [] G else try_right q) i)) v
 

@@ -1,8 +1,7 @@
 -- The turns of the search, as moves.
 use Rattle.std.specs.Prelude.{◌≡◌, Bool, true, false, List, [], ℕ, ◌<◌, length, get_or, take}
 use Rattle.formula.specs.Formula.{Face, ff, ft, fand, for}
-use Rattle.calculus.specs.Search.{Move, by-top, by-hit, by-absurd, by-clash, stuck, try_right, move}
-use Rattle.obligations.specs.Obligations.{guarded_move}
+use Rattle.calculus.specs.Search.{Move, by-top, by-hit, by-absurd, by-clash, stuck, try_right}
 use Rattle.calculus.specs.Judgement.{Step}
 use Rattle.calculus.specs.Record.{faces_bytes}
 use Rattle.index.specs.Index.{Finished}
@@ -12,11 +11,6 @@ use Rattle.steps.specs.Running.{done_by, step_by}
 use Rattle.contexts.specs.Moves.{split_at}
 use Rattle.search.specs.declared.turns.Turn.{Turn}
 use Rattle.search.specs.declared.turns.Turn.TheVariants.{Top, Hit, Absurd, Opposed, AndLeft, OrLeft, AndRight, OrRight, Stuck}
-
--- The next move of document 01's search, or that of the guarded search, in which only a zero literal begins a clash.
-abbrev pub move_by : Bool → List Face → Face → Move
-move_by true G g = guarded_move G g
-move_by false G g = move G g
 
 -- Was a run out of room?
 abbrev pub full_by : Ran → Bool

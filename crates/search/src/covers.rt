@@ -70,7 +70,7 @@ fn take_turn(l: &mut [u8], ix: &mut [u32], n: usize, g: &[u8], goal: &[u8]) -> R
     requires { Indexed l.old ix.old × Context n g.now × Known Faces goal.now }
     ensures { Runs (book l.old ix.old) (emit_cover (context_of n g.now) (tree_of Faces goal.now)) result (book l.new ix.new) }
 {
-    match turns::next_turn(false, n, g, goal) {
+    match turns::next_turn(n, g, goal) {
         Turn::Top => contexts::by_top(l, ix, n, g, goal),
         Turn::Hit => contexts::by_member(l, ix, 22, goal, n, g, goal),
         Turn::Absurd => contexts::by_absurd(l, ix, n, g, goal),

@@ -1,18 +1,18 @@
 // The next turn of the search: the first try that is not stuck.
 ghost use Rattle.std.specs.Prelude.{[]};
 ghost use Rattle.formula.specs.declared.Sort.TheVariants.{Faces};
-ghost use Rattle.calculus.specs.Search.{◌else◌, try_left, try_right};
+ghost use Rattle.calculus.specs.Search.{◌else◌, try_left, try_right, move};
 ghost use Rattle.formula.specs.Answers.{tree_of};
 ghost use Rattle.steps.specs.Trees.{Known};
 ghost use Rattle.contexts.specs.Contexts.{context_of, Context};
-ghost use Rattle.search.specs.Turns.{move_by, Turns};
+ghost use Rattle.search.specs.Turns.{Turns};
 
 use contexts::Clash;
 use formula::Sort;
 
 // A move: a clash with its dimension, a left move with the number of the compound and where it begins.
-#[derive(Drop)]
-pub enum Turn {
+#[derive(Clone, Copy)]
+pub(crate) enum Turn {
     Top,
     Hit,
     Absurd,
@@ -47,10 +47,10 @@ fn split(n: usize, g: &[u8], goal: &[u8]) -> Turn
     Turn::Stuck
 }
 
-// The tries in their order: top, hit, absurd, clash, and the splits. A clash begins with any literal, or only with a zero literal.
-pub fn next_turn(zero: bool, n: usize, g: &[u8], goal: &[u8]) -> Turn
+// The tries in their order: top, hit, absurd, clash, and the splits.
+pub(crate) fn next_turn(n: usize, g: &[u8], goal: &[u8]) -> Turn
     requires { Context n g.now × Known Faces goal.now }
-    ensures { Turns (context_of n g.now) (tree_of Faces goal.now) (move_by zero (context_of n g.now) (tree_of Faces goal.now)) result }
+    ensures { Turns (context_of n g.now) (tree_of Faces goal.now) (move (context_of n g.now) (tree_of Faces goal.now)) result }
 {
     if goal[0] == 1 {
         return Turn::Top;
@@ -62,7 +62,7 @@ pub fn next_turn(zero: bool, n: usize, g: &[u8], goal: &[u8]) -> Turn
     if contexts::has(&ff, n, g) {
         return Turn::Absurd;
     }
-    match contexts::first_clash(zero, n, g) {
+    match contexts::first_clash(n, g) {
         Clash::Of(k) => Turn::Opposed(k),
         Clash::Free => split(n, g, goal),
     }

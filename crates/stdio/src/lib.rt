@@ -1,4 +1,6 @@
 // Text, numbers and bytes on standard output, numbers and bytes from standard input, and whole inputs: what the programs share.
+#![tactic(auto)]
+
 ghost use Rattle.std.specs.Prelude.{◌≡◌, ◌<◌, ◌≤◌, length};
 ghost use Rattle.io.specs.Counts.{IsPrefixLen};
 
@@ -89,7 +91,7 @@ pub fn read_bytes(space: &mut [u8], n: usize) -> &[u8] {
 }
 
 // What was read: so many bytes, in front of the space, and whether no read failed.
-#[derive(Drop)]
+#[derive(Clone, Copy)]
 pub struct Content {
     pub len: usize,
     pub whole: bool,

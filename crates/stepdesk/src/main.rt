@@ -1,4 +1,6 @@
 // Says what the step desk answers of the ledgers in the files named, or of the one on standard input.
+#![tactic(auto)]
+
 ghost use Rattle.io.specs.Counts.{IsPrefixLen};
 
 use desk::Verdict;

@@ -1,33 +1,28 @@
 -- One run after another on a ledger's bytes.
-use Prim.Native.Nat.{ℕ, ◌+◌, ◌*◌, ◌≤◌, ◌<◌}
+use Prim.Native.Nat.{ℕ, ◌+◌, ◌≤◌, ◌<◌}
 use native.Mathlib.Omega.{arith}
 use mathlib.Core.Path.{◌≡◌, refl, sym, ap, ◌∙◌, subst, subst₂}
-use mathlib.Core.Bool.{Bool, true, false, ◌&&◌}
-use lib.Dec.{leb}
-use borrow.Author.Tests.{le-leb, leb-true}
+use mathlib.Core.Bool.{Bool, true, false}
 use mathlib.Core.Option.{Option, none, some}
-use mathlib.Core.List.{List, [], ◌∷◌, ◌++◌}
+use mathlib.Core.List.{List, [], ◌∷◌, ◌++◌, append_assoc, append-nil}
 use lib.ListN.{length, take, length-append}
 use Rattle.calculus.specs.Judgement.{Judgement, Step}
 use Rattle.calculus.specs.Table.{predicate, Listed}
 use Rattle.calculus.specs.Rules.{Rule, AllBelow}
-use Rattle.calculus.specs.Record.{operand_bytes, size, Holds}
-use Rattle.calculus.specs.Emit.{Failure, not-below, not-implied, Program, stop, emit, ◌>>=◌, attempt, Outcome, done, stopped, full, next, instead, append, emitted, find, within, run, leaving, left}
+use Rattle.calculus.specs.Record.{operand_bytes, Holds}
+use Rattle.calculus.specs.Emit.{Failure, not-below, not-implied, Program, stop, emit, ◌>>=◌, attempt, Outcome, done, stopped, full, next, instead, append, emitted, find, within, run}
 use Rattle.calculus.proofs.Tables.{rule-listed}
 use Rattle.calculus.proofs.Finding.{find-lowest}
-use Rattle.calculus.proofs.Growing.{Limited, limited-allowed, Extends}
-use Rattle.calculus.proofs.Rooms.{run_agree}
-use Rattle.calculus.proofs.Leaving.{steps_after, left_after, left-extends}
+use Rattle.calculus.proofs.Growing.{Limited, limited-allowed}
+use Rattle.calculus.proofs.Repeating.{Longer, done-longer, stopped-longer, is-full, run-longer}
 use Rattle.ledger.specs.Ledger.{steps_of}
-use Rattle.emission.specs.Emitting.{StandsFor, room_for, Emission, Keeps, Ran as EmitRan}
+use Rattle.emission.specs.Emitting.{StandsFor, Emission, Keeps, Ran as EmitRan}
 use Rattle.emission.specs.declared.Emitted.{Emitted}
 use Rattle.emission.specs.declared.Emitted.TheVariants.{Step as Number, Full as NoRoom}
 use Rattle.ledger.proofs.LedgerLaws.{holds-steps}
-use Rattle.index.specs.Index.{capacity}
-use Rattle.index.proofs.RoomLaws.{steps-eight}
 use Rattle.steps.specs.declared.Ran.{Ran}
 use Rattle.steps.specs.declared.Ran.TheVariants.{Done, Full}
-use Rattle.steps.specs.Running.{Book, book, Kept, done_by, step_by, failed_by, room_of, Leaves, Ends, outcome_of, left_of, Runs, RunsOn, Emits}
+use Rattle.steps.specs.Running.{Book, Kept, done_by, step_by, failed_by, Leaves, Grew, Ends, Runs, Emits}
 
 pub true-false : {A : Type 0} → true ≡ false → A
 true-false e = absurd (let z : ◌≡◌ {A = ℕ} 0 1 = cc in omega arith)
@@ -39,72 +34,68 @@ record IsDone (l : Book) (o : Outcome) (r : Ran) (l' : Book) : Type 0 where
   ends : o ≡ done (step_by r) steps
   leaves : Leaves l steps l'
 
-done-of : (l l' : Book) (r : Ran) (o : Outcome) (Z : List Step) → Ends l o Z r l' → done_by r ≡ true → IsDone l o r l'
-done-of l l' r (done n M) Z e h = record { steps = M; ends = ap (λ (x : Ran). done (step_by x) M) (sym e.0); leaves = e.1 }
-done-of l l' r (stopped not-below M) Z e h = true-false (sym h ∙ ap done_by e.0)
-done-of l l' r (stopped not-implied M) Z e h = true-false (sym h ∙ ap done_by e.0)
-done-of l l' r full Z e h = true-false (sym h ∙ ap done_by e.0)
+done-of : (l l' : Book) (r : Ran) (o : Outcome) → Ends l o r l' → done_by r ≡ true → IsDone l o r l'
+done-of l l' r (done n M) e h = record { steps = M; ends = ap (λ (x : Ran). done (step_by x) M) (sym e.0); leaves = e.1 }
+done-of l l' r (stopped not-below M) e h = true-false (sym h ∙ ap done_by e.0)
+done-of l l' r (stopped not-implied M) e h = true-false (sym h ∙ ap done_by e.0)
+done-of l l' r full e h = true-false (sym h ∙ ap done_by e.0)
 
--- What a run leaves, however it ended.
-leaves_of : (l l' : Book) (r : Ran) (o : Outcome) (Z : List Step) → Ends l o Z r l' → Leaves l (steps_after o Z) l'
-leaves_of l l' r (done n M) Z e = e.1
-leaves_of l l' r (stopped f M) Z e = e.1
-leaves_of l l' r full Z e = e.1
+-- The ledger after a run is one as long, and holds what was there and more.
+grew : (l l' : Book) (r : Ran) (o : Outcome) → Longer (steps_of l.bytes) o → Ends l o r l' → Grew l l'
+grew l l' r (done n M) (done-longer x) e = record { more = x.more; leaves = subst (λ (N : List Step). Leaves l N l') x.whole e.1 }
+grew l l' r (stopped f M) (stopped-longer x) e = record { more = x.more; leaves = subst (λ (N : List Step). Leaves l N l') x.whole e.1 }
+grew l l' r full is-full e = e.1
 
 module _ {l l₁ : Book} {p : Program} {r : Ran} (h : Runs l p r l₁) where
-  pub runs-leaves : Leaves l (left_of l p) l₁
-  runs-leaves = subst (λ (M : List Step). Leaves l M l₁) (sym (left_after (room_of l) p (steps_of l.bytes))) (leaves_of l l₁ r (outcome_of l p) (left_of l p) h.ends)
-
-  -- The ledger holds what was there and more.
-  pub runs-extends : Extends (steps_of l.bytes) (steps_of l₁.bytes)
-  runs-extends = subst (Extends (steps_of l.bytes)) (sym (holds-steps runs-leaves.holds)) (left-extends (room_of l) p (steps_of l.bytes))
+  pub runs-grew : Grew l l₁
+  runs-grew = grew l l₁ r (run (within (length l.bytes)) p (steps_of l.bytes)) (run-longer (within (length l.bytes)) p (steps_of l.bytes)) h.ends
 
   -- A run that is done, over the steps that it left.
-  pub runs_done : done_by r ≡ true → outcome_of l p ≡ done (step_by r) (steps_of l₁.bytes)
-  runs_done d = let i = done-of l l₁ r (outcome_of l p) (left_of l p) h.ends d in i.ends ∙ ap (done (step_by r)) (sym (holds-steps i.leaves.holds))
+  pub runs_done : done_by r ≡ true → run (within (length l.bytes)) p (steps_of l.bytes) ≡ done (step_by r) (steps_of l₁.bytes)
+  runs_done d = let i = done-of l l₁ r (run (within (length l.bytes)) p (steps_of l.bytes)) h.ends d in i.ends ∙ ap (done (step_by r)) (sym (holds-steps i.leaves.holds))
 
   pub runs-led : Kept l₁
-  runs-led = runs-leaves.kept
+  runs-led = runs-grew.leaves.kept
 
   pub runs-long : length l₁.bytes ≡ length l.bytes
-  runs-long = runs-leaves.long
+  runs-long = runs-grew.leaves.long
 
   pub runs-more : length (steps_of l.bytes) ≤ length (steps_of l₁.bytes)
-  runs-more = omega (arith, ap length runs-extends.whole, length-append (steps_of l.bytes) runs-extends.more)
+  runs-more = omega (arith, ap length (holds-steps runs-grew.leaves.holds), length-append (steps_of l.bytes) runs-grew.more)
 
 -- One after another -----------------------------------------------------------------------------
 
-leaves-on : {l l₁ l₂ : Book} {L M : List Step} → Leaves l L l₁ → Leaves l₁ M l₂ → Leaves l M l₂
-leaves-on v w = record { long = w.long ∙ v.long; wide = w.wide ∙ v.wide; holds = w.holds; kept = w.kept }
+grew_trans : (l l₁ l₂ : Book) → Grew l l₁ → Grew l₁ l₂ → Grew l l₂
+grew_trans l l₁ l₂ g k =
+    let e : steps_of l₁.bytes ++ k.more ≡ steps_of l.bytes ++ (g.more ++ k.more) = ap (λ (M : List Step). M ++ k.more) (holds-steps g.leaves.holds) ∙ append_assoc (steps_of l.bytes) g.more k.more in
+    record { more = g.more ++ k.more; leaves = record { long = k.leaves.long ∙ g.leaves.long; holds = subst (λ (M : List Step). Holds l₂.bytes M) e k.leaves.holds; kept = k.leaves.kept } }
 
-farther : (l l₁ l₂ : Book) (s : Ran) {L : List Step} → Leaves l L l₁ → (o : Outcome) (Z : List Step) → Ends l₁ o Z s l₂ → Ends l o Z s l₂
-farther l l₁ l₂ s v (done n M) Z e = (e.0, leaves-on v e.1)
-farther l l₁ l₂ s v (stopped f M) Z e = (e.0, leaves-on v e.1)
-farther l l₁ l₂ s v full Z e = (e.0, leaves-on v e.1)
+farther : (l l₁ l₂ : Book) (s : Ran) → Grew l l₁ → (o : Outcome) → Ends l₁ o s l₂ → Ends l o s l₂
+farther l l₁ l₂ s g (done n M) e = (e.0, record { long = e.1.long ∙ g.leaves.long; holds = e.1.holds; kept = e.1.kept })
+farther l l₁ l₂ s g (stopped f M) e = (e.0, record { long = e.1.long ∙ g.leaves.long; holds = e.1.holds; kept = e.1.kept })
+farther l l₁ l₂ s g full e = (e.0, grew_trans l l₁ l₂ g e.1)
 
 -- The run of q on the ledger that holds M is its run on M.
-on-steps : (l l₁ l₂ : Book) (s : Ran) (M : List Step) (q : Program) → Leaves l M l₁ → Runs l₁ q s l₂ → Ends l (run (room_of l) q M) (left (room_of l) q M) s l₂
-on-steps l l₁ l₂ s M q v h =
-    let e = subst₂ (λ (n k : ℕ). Ends l₁ (run (room_for n k) q (steps_of l₁.bytes)) (left (room_for n k) q (steps_of l₁.bytes)) s l₂) v.long v.wide h.ends in
-    farther l l₁ l₂ s v (run (room_of l) q M) (left (room_of l) q M) (subst (λ (N : List Step). Ends l₁ (run (room_of l) q N) (left (room_of l) q N) s l₂) (holds-steps v.holds) e)
+on-steps : (l l₁ l₂ : Book) (s : Ran) (M : List Step) (q : Program) → Leaves l M l₁ → Grew l l₁ → Runs l₁ q s l₂ → Ends l (run (within (length l.bytes)) q M) s l₂
+on-steps l l₁ l₂ s M q v g h =
+    farther l l₁ l₂ s g (run (within (length l.bytes)) q M) (subst₂ (λ (n : ℕ) (N : List Step). Ends l₁ (run (within n) q N) s l₂) v.long (holds-steps v.holds) h.ends)
 
 -- A program after one that is done.
 pub runs-next : {l l₁ l₂ : Book} {p : Program} {r s : Ran} (q : ℕ → Program) → Runs l p r l₁ → done_by r ≡ true → Runs l₁ (q (step_by r)) s l₂ → Runs l (p >>= q) s l₂
-unfolding run left
+unfolding run
 runs-next {l} {l₁} {l₂} {p} {r} {s} q h d k =
-    let i = done-of l l₁ r (outcome_of l p) (left_of l p) h.ends d in
-    record { ends = rw i.ends (on-steps l l₁ l₂ s i.steps (q (step_by r)) i.leaves k) }
+    let i = done-of l l₁ r (run (within (length l.bytes)) p (steps_of l.bytes)) h.ends d in
+    record { ends = rw i.ends (on-steps l l₁ l₂ s i.steps (q (step_by r)) i.leaves (runs-grew h) k) }
 
 -- Where the first is not done, nothing follows it.
-ends-stop : (l l₁ : Book) (r : Ran) (k : ℕ → List Step → Outcome) (m : ℕ → List Step → List Step) (o : Outcome) (Z : List Step) → Ends l o Z r l₁ → done_by r ≡ false
-    → Ends l (next o k) (leaving o m (λ M. M) Z) r l₁
-ends-stop l l₁ r k m (done n M) Z e d = true-false (sym (ap done_by e.0) ∙ d)
-ends-stop l l₁ r k m (stopped f M) Z e d = e
-ends-stop l l₁ r k m full Z e d = e
+ends-stop : (l l₁ : Book) (r : Ran) (k : ℕ → List Step → Outcome) (o : Outcome) → Ends l o r l₁ → done_by r ≡ false → Ends l (next o k) r l₁
+ends-stop l l₁ r k (done n M) e d = true-false (sym (ap done_by e.0) ∙ d)
+ends-stop l l₁ r k (stopped f M) e d = e
+ends-stop l l₁ r k full e d = e
 
 pub runs-stop : {l l₁ : Book} {p : Program} {r : Ran} (q : ℕ → Program) → Runs l p r l₁ → done_by r ≡ false → Runs l (p >>= q) r l₁
-unfolding run left
-runs-stop {l} {l₁} {p} {r} q h d = record { ends = ends-stop l l₁ r (λ n. run (room_of l) (q n)) (λ n. left (room_of l) (q n)) (outcome_of l p) (left_of l p) h.ends d }
+unfolding run
+runs-stop {l} {l₁} {p} {r} q h d = record { ends = ends-stop l l₁ r (λ n. run (within (length l.bytes)) (q n)) (run (within (length l.bytes)) p (steps_of l.bytes)) h.ends d }
 
 -- A number that is answered is that of a step -----------------------------------------------------
 
@@ -140,8 +131,8 @@ run-below room (attempt p q t) L = instead-below (run room p L) (λ n. run room 
 
 pub runs-below : {l l₁ : Book} {p : Program} {r : Ran} → Runs l p r l₁ → done_by r ≡ true → step_by r < length (steps_of l₁.bytes)
 runs-below {l} {l₁} {p} {r} h d =
-    let i = done-of l l₁ r (outcome_of l p) (left_of l p) h.ends d in
-    omega (arith, subst Below i.ends (run-below (room_of l) p (steps_of l.bytes)), ap length (holds-steps i.leaves.holds))
+    let i = done-of l l₁ r (run (within (length l.bytes)) p (steps_of l.bytes)) h.ends d in
+    omega (arith, subst Below i.ends (run-below (within (length l.bytes)) p (steps_of l.bytes)), ap length (holds-steps i.leaves.holds))
 
 -- One program, and another where it stops -----------------------------------------------------------
 
@@ -149,43 +140,35 @@ abbrev pub Failed : Ran → Type 0
 Failed r = (done_by r ≡ false) × (r ≡ Full → ⊥)
 
 pub attempt-done : {l l₁ l₂ : Book} {p : Program} {r s : Ran} (q : ℕ → Program) (t : Program) → Runs l p r l₁ → done_by r ≡ true → Runs l₁ (q (step_by r)) s l₂ → Runs l (attempt p q t) s l₂
-unfolding run left
+unfolding run
 attempt-done {l} {l₁} {l₂} {p} {r} {s} q t h d k =
-    let i = done-of l l₁ r (outcome_of l p) (left_of l p) h.ends d in
-    record { ends = rw i.ends (on-steps l l₁ l₂ s i.steps (q (step_by r)) i.leaves k) }
-
--- What an attempt comes to, from how its first program ended.
-abbrev Attempted : (l l₂ : Book) (s : Ran) (q : ℕ → Program) (t : Program) → Outcome → List Step → Type 0
-Attempted l l₂ s q t o Z = Ends l (instead o (λ n. run (room_of l) (q n)) (run (room_of l) t)) (leaving o (λ n. left (room_of l) (q n)) (left (room_of l) t) Z) s l₂
+    let i = done-of l l₁ r (run (within (length l.bytes)) p (steps_of l.bytes)) h.ends d in
+    record { ends = rw i.ends (on-steps l l₁ l₂ s i.steps (q (step_by r)) i.leaves (runs-grew h) k) }
 
 pub attempt-failed : {l l₁ l₂ : Book} {p : Program} {r s : Ran} (q : ℕ → Program) (t : Program) → Runs l p r l₁ → Failed r → Runs l₁ t s l₂ → Runs l (attempt p q t) s l₂
-unfolding run left
-attempt-failed {l} {l₁} {l₂} {p} {r} {s} q t h f k = record { ends = go (outcome_of l p) (left_of l p) h.ends }
+unfolding run
+attempt-failed {l} {l₁} {l₂} {p} {r} {s} q t h f k = record { ends = go (run (within (length l.bytes)) p (steps_of l.bytes)) h.ends }
   where
-    go : (o : Outcome) (Z : List Step) → Ends l o Z r l₁ → Attempted l l₂ s q t o Z
-    go (done n M) Z e = true-false (sym (ap done_by e.0) ∙ f.0)
-    go (stopped x M) Z e = on-steps l l₁ l₂ s M t e.1 k
-    go full Z e = absurd (f.1 e.0)
+    go : (o : Outcome) → Ends l o r l₁ → Ends l (instead o (λ n. run (within (length l.bytes)) (q n)) (run (within (length l.bytes)) t)) s l₂
+    go (done n M) e = true-false (sym (ap done_by e.0) ∙ f.0)
+    go (stopped x M) e = on-steps l l₁ l₂ s M t e.1 (runs-grew h) k
+    go full e = absurd (f.1 e.0)
 
 pub attempt-full : {l l₁ : Book} {p : Program} (q : ℕ → Program) (t : Program) → Runs l p Full l₁ → Runs l (attempt p q t) Full l₁
-unfolding run left
-attempt-full {l} {l₁} {p} q t h = record { ends = go (outcome_of l p) (left_of l p) h.ends }
+unfolding run
+attempt-full {l} {l₁} {p} q t h = record { ends = go (run (within (length l.bytes)) p (steps_of l.bytes)) h.ends }
   where
-    go : (o : Outcome) (Z : List Step) → Ends l o Z Full l₁ → Attempted l l₁ Full q t o Z
-    go (done n M) Z e = absurd (let z : ◌≡◌ {A = ℕ} 0 1 = cc in omega arith)
-    go (stopped not-below M) Z e = absurd (let z : ◌≡◌ {A = ℕ} 0 1 = cc in omega arith)
-    go (stopped not-implied M) Z e = absurd (let z : ◌≡◌ {A = ℕ} 0 1 = cc in omega arith)
-    go full Z e = e
+    go : (o : Outcome) → Ends l o Full l₁ → Ends l (instead o (λ n. run (within (length l.bytes)) (q n)) (run (within (length l.bytes)) t)) Full l₁
+    go (done n M) e = absurd (let z : ◌≡◌ {A = ℕ} 0 1 = cc in omega arith)
+    go (stopped not-below M) e = absurd (let z : ◌≡◌ {A = ℕ} 0 1 = cc in omega arith)
+    go (stopped not-implied M) e = absurd (let z : ◌≡◌ {A = ℕ} 0 1 = cc in omega arith)
+    go full e = e
 
 -- Stopping, and emitting a step ---------------------------------------------------------------------
 
--- A ledger with its index, as it is.
-pub leaves_all : {l : Book} → Kept l → Leaves l (steps_of l.bytes) l
-leaves_all h = record { long = refl; wide = refl; holds = h.led; kept = h }
-
 pub runs-failure : {l : Book} → Kept l → (f : Failure) → Runs l (stop f) (failed_by f) l
-unfolding run left
-runs-failure h f = record { ends = (refl, leaves_all h) }
+unfolding run
+runs-failure h f = record { ends = (refl, record { long = refl; holds = h.led; kept = h }) }
 
 -- The step of a judgement that keeps the limits, from references that are there.
 pub emits-as : {l l' : Book} {kind : ℕ} {references operands : List ℕ} {r : Ran} → Emits l kind references operands r l'
@@ -196,34 +179,31 @@ emits-as {kind} h is j k b m t e =
 
 -- The emit rule of the ledger as a run.
 module _ (l l' : Book) (start : Kept l) where
-  emitted-number : (o : Outcome) (Z : List Step) (i : ℕ) → Kept l' × (length l'.numbers ≡ length l.numbers) → EmitRan l.bytes o (Number i) l'.bytes → Ends l o Z (Done i) l'
-  emitted-number (done n M) Z i k e = (ap Done e.0, record { long = e.1; wide = k.1; holds = e.2; kept = k.0 })
-  emitted-number (stopped f M) Z i k e = absurd e
-  emitted-number full Z i k e = absurd e
+  emitted-number : (o : Outcome) (i : ℕ) → Kept l' → EmitRan l.bytes o (Number i) l'.bytes → Ends l o (Done i) l'
+  emitted-number (done n M) i k e = (ap Done e.0, record { long = e.1; holds = e.2; kept = k })
+  emitted-number (stopped f M) i k e = absurd e
+  emitted-number full i k e = absurd e
 
-  emitted-full : (o : Outcome) → Kept l' × (length l'.numbers ≡ length l.numbers) → EmitRan l.bytes o NoRoom l'.bytes → Ends l o (leaving o (λ n M. M) (λ M. M) (steps_of l.bytes)) Full l'
+  emitted-full : (o : Outcome) → Kept l' → EmitRan l.bytes o NoRoom l'.bytes → Ends l o Full l'
   emitted-full (done n M) k e = absurd e
   emitted-full (stopped f M) k e = absurd e
-  emitted-full full k e = (refl, record { long = ap length e; wide = k.1; holds = subst (λ (m : List ℕ). Holds m (steps_of l.bytes)) (sym e) start.led; kept = k.0 })
+  emitted-full full k e = (refl, record { more = []; leaves = record { long = ap length e; holds = subst₂ Holds (sym e) (sym (append-nil (steps_of l.bytes))) start.led; kept = k } })
 
-  module _ (kind : ℕ) (references operands given : List ℕ) (same : given ≡ operands) (keeps : Keeps l.bytes l.numbers kind references given l'.bytes l'.numbers) where
-    stands : {s : Step} {is : List ℕ} → StandsFor s kind is operands → StandsFor s kind is given
-    stands t = record { kinds = t.kinds; refers = t.refers; judges = t.judges ∙ sym same }
-
-    pub emits_number : (x : Emitted) (i : ℕ) → x ≡ Number i → Emission l.bytes l.numbers kind references given x l'.bytes → Emits l kind references operands (Done i) l'
+  module _ (kind : ℕ) (references operands given : List ℕ) (same : given ≡ operands) (keeps : Keeps l.bytes kind references given l'.bytes l'.numbers) where
+    pub emits_number : (x : Emitted) (i : ℕ) → x ≡ Number i → Emission l.bytes kind references given x l'.bytes → Emits l kind references operands (Done i) l'
     emits_number x i e g =
-        let h = subst (λ (y : Emitted). Emission l.bytes l.numbers kind references given y l'.bytes) e g in
+        let h = subst (λ (y : Emitted). Emission l.bytes kind references given y l'.bytes) e g in
         record {
-          rule = λ s f t. let p = emit s.kind s.references s.judgement in
-              record { ends = emitted-number (outcome_of l p) (left_of l p) i (keeps s f (stands t)) (h s f (stands t)) };
+          rule = λ s f t. let u : StandsFor s kind (take (length s.references) references) given = record { kinds = t.kinds; refers = t.refers; judges = t.judges ∙ sym same } in
+              record { ends = emitted-number (run (within (length l.bytes)) (emit s.kind s.references s.judgement) (steps_of l.bytes)) i (keeps s f u) (h s f u) };
         }
 
-    pub emits-full : (x : Emitted) → x ≡ NoRoom → Emission l.bytes l.numbers kind references given x l'.bytes → Emits l kind references operands Full l'
-    unfolding left
+    pub emits-full : (x : Emitted) → x ≡ NoRoom → Emission l.bytes kind references given x l'.bytes → Emits l kind references operands Full l'
     emits-full x e g =
-        let h = subst (λ (y : Emitted). Emission l.bytes l.numbers kind references given y l'.bytes) e g in
+        let h = subst (λ (y : Emitted). Emission l.bytes kind references given y l'.bytes) e g in
         record {
-          rule = λ s f t. record { ends = emitted-full (outcome_of l (emit s.kind s.references s.judgement)) (keeps s f (stands t)) (h s f (stands t)) };
+          rule = λ s f t. let u : StandsFor s kind (take (length s.references) references) given = record { kinds = t.kinds; refers = t.refers; judges = t.judges ∙ sym same } in
+              record { ends = emitted-full (run (within (length l.bytes)) (emit s.kind s.references s.judgement) (steps_of l.bytes)) (keeps s f u) (h s f u) };
         }
 
 pub emits-same : {l l' : Book} {kind : ℕ} {references x y : List ℕ} {r : Ran} → x ≡ y → Emits l kind references x r l' → Emits l kind references y r l'
@@ -248,18 +228,3 @@ pub runs-emit : {l l₁ l₂ : Book} {x : List ℕ} {p : Program} {r c : Ran} {k
 runs-emit {l₁ = l₁} {l₂} {x} {r = r} {c} {kind} {j = j} {z} h d e w {t = t} rule m o =
     let w' : Emits l₁ kind (step_by r ∷ j ∷ z ∷ []) x c l₂ = subst (λ (n : ℕ). Emits l₁ kind (n ∷ j ∷ z ∷ []) x c l₂) e w in
     runs-next (λ n. emit kind (n ∷ []) t) h d (emits-by w' rule (step_by r ∷ []) refl (runs-below h d, tt) m refl o)
-
--- An index with room for every step that the ledger has room for bounds nothing: a record has eight bytes or more.
-room_within : (n k : ℕ) → n ≤ 8 * capacity k → (M : List Step) → room_for n k M ≡ within n M
-room_within n k h M = go (within n M) refl
-  where
-    go : (b : Bool) → within n M ≡ b → (b && leb (length M) (capacity k)) ≡ b
-    go true e = le-leb (length M) (capacity k) (omega (arith, leb-true (size M) n e, steps-eight M))
-    go false e = refl
-
-module _ {l l' : List ℕ} {p : Program} {r : Ran} (h : RunsOn l p r l') where
-  -- The answer and the bytes are those of the run with the room of the ledger alone.
-  pub on-ends : Ends (book l h.before) (run (within (length l)) p (steps_of l)) (left_of (book l h.before) p) r (book l' h.after)
-  on-ends =
-      subst (λ (o : Outcome). Ends (book l h.before) o (left_of (book l h.before) p) r (book l' h.after))
-      (run_agree (room_for (length l) (length h.before)) (within (length l)) (room_within (length l) (length h.before) h.roomy) p (steps_of l)) h.runs.ends

@@ -1,12 +1,12 @@
 -- A program's run on a ledger's bytes: the answer and the bytes are those of the model's outcome.
-use Rattle.std.specs.Prelude.{◌≡◌, Bool, true, false, List, ℕ, ◌*◌, ◌≤◌, length, take}
+use Rattle.std.specs.Prelude.{◌≡◌, Bool, true, false, List, ◌++◌, ℕ, length, take}
 use Rattle.calculus.specs.Judgement.{Step}
 use Rattle.calculus.specs.Record.{FormedStep, Holds}
-use Rattle.calculus.specs.Emit.{Failure, not-below, not-implied, Program, emit, Outcome, done, stopped, full, run, left}
+use Rattle.calculus.specs.Emit.{Failure, not-below, not-implied, Program, emit, Outcome, done, stopped, full, within, run}
 use Rattle.calculus.specs.Calls.{Order, less, at_most}
 use Rattle.ledger.specs.Ledger.{steps_of}
-use Rattle.emission.specs.Emitting.{StandsFor, room_for}
-use Rattle.index.specs.Index.{capacity, Indexed}
+use Rattle.emission.specs.Emitting.{StandsFor}
+use Rattle.index.specs.Index.{Indexed}
 use Rattle.steps.specs.declared.Ran.{Ran}
 use Rattle.steps.specs.declared.Ran.TheVariants.{Done, NotBelow, NotImplied, Full}
 
@@ -41,39 +41,31 @@ book l x = record { bytes = l; numbers = x }
 abbrev pub Kept : Book → Type 0
 Kept l = Indexed l.bytes l.numbers
 
--- Is there room for these steps in the ledger and its index?
-abbrev pub room_of : Book → List Step → Bool
-room_of l = room_for (length l.bytes) (length l.numbers)
-
 -- A ledger as long as l that holds these steps, with its index.
 pub record Leaves (l : Book) (M : List Step) (l' : Book) : Type 0 where
   pub long : length l'.bytes ≡ length l.bytes
-  pub wide : length l'.numbers ≡ length l.numbers
   pub holds : Holds l'.bytes M
   pub kept : Kept l'
 
--- The answer and the bytes of an outcome; Z are the steps where it is out of room.
-abbrev pub Ends : Book → Outcome → List Step → Ran → Book → Type 0
-Ends l (done n M) Z r l' = (r ≡ Done n) × Leaves l M l'
-Ends l (stopped e M) Z r l' = (r ≡ failed_by e) × Leaves l M l'
-Ends l full Z r l' = (r ≡ Full) × Leaves l Z l'
+-- A ledger that ran out of room: it holds the steps of l and more.
+pub record Grew (l l' : Book) : Type 0 where
+  pub more : List Step
+  pub leaves : Leaves l (steps_of l.bytes ++ more) l'
 
--- A program's run over the steps of l with the room that l has, and what it leaves.
-abbrev pub outcome_of : Book → Program → Outcome
-outcome_of l p = run (room_of l) p (steps_of l.bytes)
+-- The answer and the bytes of an outcome.
+abbrev pub Ends : Book → Outcome → Ran → Book → Type 0
+Ends l (done n M) r l' = (r ≡ Done n) × Leaves l M l'
+Ends l (stopped e M) r l' = (r ≡ failed_by e) × Leaves l M l'
+Ends l full r l' = (r ≡ Full) × Grew l l'
 
-abbrev pub left_of : Book → Program → List Step
-left_of l p = left (room_of l) p (steps_of l.bytes)
-
--- The answer and the bytes of the run.
+-- The answer and the bytes of a program's run over the steps of l, with the room that l has.
 pub record Runs (l : Book) (p : Program) (r : Ran) (l' : Book) : Type 0 where
-  pub ends : Ends l (outcome_of l p) (left_of l p) r l'
+  pub ends : Ends l (run (within (length l.bytes)) p (steps_of l.bytes)) r l'
 
--- The same of the bytes alone, with an index beside them that has room for every step that the ledger has room for.
+-- The same of the bytes alone, with some index beside them.
 pub record RunsOn (l : List ℕ) (p : Program) (r : Ran) (l' : List ℕ) : Type 0 where
   pub before : List ℕ
   pub after : List ℕ
-  pub roomy : length l ≤ 8 * capacity (length before)
   pub runs : Runs (book l before) p r (book l' after)
 
 -- The emit rule for every step that the bytes stand for.

@@ -1,4 +1,6 @@
 // Texts (document 01, "Text and listing"): formulas, numbers and claims typed by a person.
+#![tactic(auto)]
+
 mod formulas;
 mod numbers;
 mod reads;
@@ -9,21 +11,21 @@ pub use reads::{read_claim, read_formula};
 use refusals::Refusal;
 
 // The length of what was written into the output, or a refusal.
-#[derive(Drop)]
+#[derive(Clone, Copy)]
 pub enum Length {
     Bytes(usize),
     Refused(Refusal),
 }
 
 // A claim: d and the lengths of its two faces, or a refusal.
-#[derive(Drop)]
+#[derive(Clone, Copy)]
 pub enum Claim {
     Read(usize, usize, usize),
     Refused(Refusal),
 }
 
 // What stands at a place of a text: a parenthesis with the place behind it, a word with its two ends, or nothing more.
-#[derive(Drop)]
+#[derive(Clone, Copy)]
 pub enum Token {
     Open(usize),
     Close(usize),
@@ -32,21 +34,21 @@ pub enum Token {
 }
 
 // The place behind a closing parenthesis, where it stands.
-#[derive(Drop)]
+#[derive(Clone, Copy)]
 pub enum Closed {
     Behind(usize),
     Missing,
 }
 
 // A number and the place behind it.
-#[derive(Drop)]
+#[derive(Clone, Copy)]
 pub enum Numeral {
     Read(usize, usize),
     Refused(Refusal),
 }
 
 // Where the reader is: in the text, in the output, and how many nodes the formula may still have.
-#[derive(Drop)]
+#[derive(Clone, Copy)]
 pub struct Cursor {
     at: usize,
     to: usize,
@@ -54,7 +56,7 @@ pub struct Cursor {
 }
 
 // Where the reader came to.
-#[derive(Drop)]
+#[derive(Clone, Copy)]
 pub enum Parsed {
     Read(Cursor),
     Refused(Refusal),

@@ -1,4 +1,6 @@
 // The judgements of a transformed formula, beside the bytes of the result.
+#![tactic(auto)]
+
 ghost use Rattle.std.specs.Prelude.{◌≡◌, [], ◌∷◌, ◌+◌, ◌≤◌, ◌<◌, length, get_or, take};
 ghost use Rattle.formula.specs.Operations.{shift, subst};
 ghost use Rattle.formula.specs.Bytes.{encode};

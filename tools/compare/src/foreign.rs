@@ -32,7 +32,7 @@ fn is_cover(step: &Step) -> bool {
 }
 
 /// How a ledger is made, in hundreds.
-pub struct Habits {
+struct Habits {
     keep: usize,
     double: usize,
     alter: usize,
@@ -41,10 +41,10 @@ pub struct Habits {
 }
 
 /// The steps as they come.
-pub const AS_IT_IS: Habits = Habits { keep: 100, double: 0, alter: 0, covers: 0, shuffle: false };
+const AS_IT_IS: Habits = Habits { keep: 100, double: 0, alter: 0, covers: 0, shuffle: false };
 
 impl Habits {
-    pub fn new(random: &mut Random) -> Self {
+    fn new(random: &mut Random) -> Self {
         Self {
             keep: *random.pick(&[0, 30, 70, 100, 100]),
             double: *random.pick(&[0, 5, 30, 100]),
@@ -56,7 +56,7 @@ impl Habits {
 }
 
 /// A step of some kind with this predicate; its references are chosen later.
-pub fn any_kind(predicate: &str, operands: Vec<u8>, random: &mut Random) -> Step {
+fn any_kind(predicate: &str, operands: Vec<u8>, random: &mut Random) -> Step {
     let kind = *random.pick(&kinds(predicate));
     Step { kind, references: vec![usize::MAX; ledger::references(kind)], operands }
 }
@@ -68,7 +68,7 @@ fn faces(calls: &[Call]) -> Vec<Tree> {
 }
 
 /// Some face covers another, whether it does or not.
-pub fn any_cover(faces: &[Tree], random: &mut Random) -> Vec<u8> {
+fn any_cover(faces: &[Tree], random: &mut Random) -> Vec<u8> {
     let some = |r: &mut Random| {
         let mut t = r.pick(faces);
         while !t.parts.is_empty() && r.chance(60) {
@@ -86,44 +86,24 @@ fn claim(call: &Call) -> Option<Vec<u8>> {
     is.then(|| [&[call.number as u8][..], &call.operands.concat()].concat())
 }
 
-/// A step that may stand in a ledger, with the number that it has where calls emit it.
-pub type Candidate = (Option<usize>, Step);
-
-/// Steps that calls emitted, and judgements that are said in any kind: by the habits some of both, in some order.
-pub fn candidates(
-    emitted: Vec<Step>,
-    said: impl FnOnce(&mut Random) -> Vec<(&'static str, Vec<u8>)>,
-    habits: &Habits,
-    random: &mut Random,
-) -> Vec<Candidate> {
-    let mut out: Vec<_> = emitted.into_iter().enumerate().map(|(i, s)| (Some(i), s)).collect();
+/// What the calls would emit, each with its number, and what their searches and claims say, in any kind.
+fn candidates(calls: &[Call], habits: &Habits, random: &mut Random) -> Vec<(Option<usize>, Step)> {
+    let mut free = Plain { met: Some(vec![]), ..Plain::new(LONGEST, vec![]) };
+    calls.iter().for_each(|call| drop(free.ask(call)));
+    let mut out: Vec<_> = free.steps.into_iter().enumerate().map(|(i, s)| (Some(i), s)).collect();
     out.retain(|_| random.chance(habits.keep));
-    let mut said = said(random);
+    let mut said: Vec<_> = free.met.unwrap().into_iter().map(|cover| ("cover", cover)).collect();
+    let faces = faces(calls);
+    if !faces.is_empty() {
+        said.extend((0..6).map(|_| ("cover", any_cover(&faces, random))));
+    }
+    said.extend(calls.iter().filter_map(claim).map(|claim| ("entails", claim)));
     said.retain(|_| random.chance(habits.covers));
     for (predicate, operands) in said {
         let step = any_kind(predicate, operands, random);
         out.insert(random.below(out.len() + 1), (None, step));
     }
-    if habits.shuffle {
-        shuffle(&mut out, random);
-    }
     out
-}
-
-/// What the calls would emit, and what their searches and claims say.
-fn candidates_of(calls: &[Call], habits: &Habits, random: &mut Random) -> Vec<Candidate> {
-    let mut free = Plain { met: Some(vec![]), ..Plain::new(LONGEST, vec![]) };
-    calls.iter().for_each(|call| drop(free.ask(call)));
-    let said = |random: &mut Random| {
-        let mut said: Vec<_> = free.met.unwrap().into_iter().map(|cover| ("cover", cover)).collect();
-        let faces = faces(calls);
-        if !faces.is_empty() {
-            said.extend((0..6).map(|_| ("cover", any_cover(&faces, random))));
-        }
-        said.extend(calls.iter().filter_map(claim).map(|claim| ("entails", claim)));
-        said
-    };
-    candidates(free.steps, said, habits, random)
 }
 
 /// The step at the end of these: with the references that it had where they are still there, else any.
@@ -134,7 +114,7 @@ fn placed(mut step: Step, steps: &[Step], places: &HashMap<usize, usize>, random
 }
 
 /// The steps in a row, doubled and altered.
-pub fn laid_out(candidates: Vec<Candidate>, habits: &Habits, random: &mut Random) -> Vec<Step> {
+fn laid_out(candidates: Vec<(Option<usize>, Step)>, habits: &Habits, random: &mut Random) -> Vec<Step> {
     let (mut steps, mut places) = (vec![], HashMap::new());
     for (old, step) in candidates {
         let step = if random.chance(habits.alter) { any_kind(step.predicate(), step.operands, random) } else { step };
@@ -185,7 +165,10 @@ pub fn made(seed: u64) -> List {
     let mut random = Random::new(seed ^ 0xf0f0);
     let (_, calls) = lists::list(seed ^ 0xf0f0, STYLE);
     let habits = Habits::new(&mut random);
-    let candidates = candidates_of(&calls, &habits, &mut random);
+    let mut candidates = candidates(&calls, &habits, &mut random);
+    if habits.shuffle {
+        shuffle(&mut candidates, &mut random);
+    }
     let start = laid_out(candidates, &habits, &mut random);
     let length = some_length(&start, &calls, &mut random);
     let twice = random.chance(70);

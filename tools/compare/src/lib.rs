@@ -4,7 +4,6 @@ pub mod counterexamples;
 pub mod expected;
 pub mod fences;
 pub mod foreign;
-pub mod guarded;
 pub mod lent;
 pub mod library;
 pub mod listings;

@@ -37,7 +37,7 @@ impl Ledgers {
     }
 }
 
-pub fn same_number(what: &str, have: i64, want: i64) -> Result<(), String> {
+fn same_number(what: &str, have: i64, want: i64) -> Result<(), String> {
     if have == want {
         return Ok(());
     }
@@ -55,7 +55,7 @@ fn output_after(before: &[u8], answer: &Answer, i: usize) -> Vec<u8> {
 
 /// One call of the library: its answer, every output byte, its operands.
 /// The number of bytes compared.
-pub fn ask(ledger: &mut [u8], call: &Call, answer: &Answer, start: usize) -> Result<usize, String> {
+fn ask(ledger: &mut [u8], call: &Call, answer: &Answer, start: usize) -> Result<usize, String> {
     let rooms = call.rooms.iter().enumerate();
     let mut outputs: Vec<_> = rooms.map(|(i, room)| Lent::pattern(*room, start + i)).collect();
     let before: Vec<_> = outputs.iter().map(|o| o.content().to_vec()).collect();

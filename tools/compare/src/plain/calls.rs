@@ -62,7 +62,7 @@ impl Plain {
         self.emit(&format!("{predicate}.s"), &[below], &operands)
     }
     /// face d t or interval d t.
-    pub fn bounded(&mut self, d: usize, t: &Tree) -> Outcome<usize> {
+    fn bounded(&mut self, d: usize, t: &Tree) -> Outcome<usize> {
         let mut references = vec![];
         match t.kind {
             DIM => references.push(self.comparison("lt", usize::from(t.dim), d)?),

@@ -16,12 +16,12 @@ fn clash(faces: &[&Tree]) -> Option<(usize, usize)> {
 }
 
 /// The faces with these in front and without the one at a place.
-pub fn instead<'a>(front: &[&'a Tree], faces: &[&'a Tree], i: usize) -> Vec<&'a Tree> {
+fn instead<'a>(front: &[&'a Tree], faces: &[&'a Tree], i: usize) -> Vec<&'a Tree> {
     [front, &faces[..i], &faces[i + 1..]].concat()
 }
 
 impl Plain {
-    pub fn member(&mut self, faces: &[&Tree], i: usize) -> Outcome<usize> {
+    fn member(&mut self, faces: &[&Tree], i: usize) -> Outcome<usize> {
         let operands = [Formula(faces[i]), Context(faces)];
         if i == 0 {
             return self.emit("member.here", &[], &operands);
@@ -29,7 +29,7 @@ impl Plain {
         let tail = self.member(&faces[1..], i - 1)?;
         self.emit("member.there", &[tail], &operands)
     }
-    pub fn take(&mut self, faces: &[&Tree], i: usize) -> Outcome<usize> {
+    fn take(&mut self, faces: &[&Tree], i: usize) -> Outcome<usize> {
         let rest = instead(&[], faces, i);
         let operands = [Context(faces), Formula(faces[i]), Context(&rest)];
         if i == 0 {

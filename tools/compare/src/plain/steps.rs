@@ -78,21 +78,12 @@ pub fn bytes(operands: &[Operand]) -> Vec<u8> {
 /// What a call answers, or the refusal that ends it.
 pub type Outcome<T> = Result<T, usize>;
 
-/// A predicate and operands.
-type Judgement = (&'static str, Vec<u8>);
-
 /// A ledger of this length, and its steps.
 pub struct Plain {
     pub length: usize,
     pub steps: Vec<Step>,
     /// The bytes 4 + L.
     pub used: usize,
-    /// With so many steps none is appended (15): the guarded search has such a limit.
-    pub most: usize,
-    /// The lowest step of each judgement, for long ledgers; None where all steps are looked through.
-    pub lowest: Option<HashMap<Judgement, usize>>,
-    /// How much was looked for so far: about as many parts as the Rust's expressions have.
-    pub weight: u64,
     /// How the searches of this call that are over ended, by their judgement; None where each is made again.
     pub over: Option<HashMap<Vec<u8>, Outcome<usize>>>,
     /// The judgements of all searches of this call, where they are asked for.
@@ -102,56 +93,31 @@ pub struct Plain {
 impl Plain {
     pub fn new(length: usize, steps: Vec<Step>) -> Self {
         let used = 4 + steps.iter().map(Step::length).sum::<usize>();
-        Self { length, steps, used, most: usize::MAX, lowest: None, weight: 0, over: None, met: None }
-    }
-    /// The same answers and steps, where ledgers are long much sooner.
-    pub fn indexed(length: usize, steps: Vec<Step>) -> Self {
-        let mut lowest = HashMap::new();
-        for (i, step) in steps.iter().enumerate() {
-            lowest.entry((step.predicate(), step.operands.clone())).or_insert(i);
-        }
-        Self { lowest: Some(lowest), ..Self::new(length, steps) }
+        Self { length, steps, used, over: None, met: None }
     }
     /// The same answers and steps, where searches repeat themselves much sooner: a search that is over would find all
     /// its steps again.
     pub fn remembering(length: usize, steps: Vec<Step>) -> Self {
         Self { over: Some(HashMap::new()), ..Self::new(length, steps) }
     }
-    /// The lowest step with this judgement.
-    pub fn find(&mut self, predicate: &'static str, operands: Vec<u8>) -> Option<usize> {
-        self.weight += operands.iter().map(|b| 2 + u64::from(*b)).sum::<u64>();
-        match &self.lowest {
-            Some(lowest) => lowest.get(&(predicate, operands)).copied(),
-            None => self.steps.iter().position(|s| s.says(predicate, &operands)),
-        }
-    }
-    /// The lowest step with this judgement; else one more, if the limit of steps and the room allow it.
+    /// The lowest step with this judgement; else one more, if there is room.
     pub fn emit(&mut self, rule: &str, references: &[usize], operands: &[Operand]) -> Outcome<usize> {
         let operands = bytes(operands);
-        let step = Step { kind: ledger::kind(rule), references: references.to_vec(), operands };
-        if let Some(i) = self.find(step.predicate(), step.operands.clone()) {
+        let predicate = rules::predicate(rule);
+        if let Some(i) = self.steps.iter().position(|s| s.says(predicate, &operands)) {
             return Ok(i);
         }
-        if self.steps.len() >= self.most {
-            return Err(15);
-        }
+        let step = Step { kind: ledger::kind(rule), references: references.to_vec(), operands };
         if self.used + step.length() > self.length {
             return Err(7);
         }
         self.used += step.length();
-        if let Some(lowest) = &mut self.lowest {
-            lowest.insert((step.predicate(), step.operands.clone()), self.steps.len());
-        }
         self.steps.push(step);
         Ok(self.steps.len() - 1)
     }
-    /// The first so many steps are left. The others were appended, so their judgements were new.
+    /// The first so many steps are left.
     pub fn undo(&mut self, count: usize) {
-        for step in self.steps.drain(count..) {
-            self.used -= step.length();
-            if let Some(lowest) = &mut self.lowest {
-                lowest.remove(&(step.predicate(), step.operands));
-            }
-        }
+        self.steps.truncate(count);
+        self.used = 4 + self.steps.iter().map(Step::length).sum::<usize>();
     }
 }

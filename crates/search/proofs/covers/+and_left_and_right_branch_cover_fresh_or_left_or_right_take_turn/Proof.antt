@@ -386,7 +386,7 @@ fresh-same-length-2 : (t : ℕ) → fresh-lts.Need-same-length-2 (fresh-claims t
 fresh-same-length-2 t c = search rules
 
 fresh-returns : (t : ℕ) → fresh-lts.Need-returns (fresh-claims t) (fresh_at t) fresh.Post
-fresh-returns t c = marked-runs c.before.before.before.before.before.before.before.before.before.take-turn.ensures c.before.before.finish.ensures c.before.before.finish.auto.1.0
+fresh-returns t c = marked-runs c.before.before.before.before.before.before.before.before.before.take-turn.ensures c.before.before.finish.ensures
 
 or-left-formula-at-requires : (t : ℕ) → or-left-lts.Need-formula-at-requires (or-left-claims t) (or-left-at t) or_left.Post
 or-left-formula-at-requires t c κs = tt

@@ -1,0 +1,6 @@
+use borrow.Author.Rules.{rules}
+use Rattle.steps.proofs.RunLaws.{emits-kind}
+use Rattle.boundary_steps.proofs.boundary_whole.Goals as goal
+
+pub returns : goal.returns
+returns c = emits-kind c.boundary_kind-kind.ensures c.emit3.ensures

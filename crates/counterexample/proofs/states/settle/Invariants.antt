@@ -1,0 +1,16 @@
+use borrow.Author.Rules.{rules}
+use Prim.Native.Nat.{ℕ, ◌≤◌, ◌-◌}
+use native.Mathlib.Omega.{arith}
+use mathlib.Core.Path.{◌≡◌, refl, ap, ap₂, ◌∙◌}
+use mathlib.Core.List.{List}
+use lib.ListN.{length, take, set}
+use lib.Seq.{sets, length-sets}
+use Rattle.needs.specs.States.{settled}
+use Rattle.counterexample.proofs.LoopLaws.{settle-more, settle-ends}
+use Rattle.counterexample.proofs.states.settle.Given as goal
+
+abbrev pub invariant-loop-i : goal.invariant-loop-i
+invariant-loop-i l = (l.i ≤ length l.state) × (l.best ≡ sets l.initial.best 0 (take l.i (settled l.state)))
+
+abbrev pub decreases-loop-i : goal.decreases-loop-i
+decreases-loop-i l = length l.state - l.i

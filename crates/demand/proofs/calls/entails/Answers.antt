@@ -1,0 +1,6 @@
+use borrow.Author.Rules.{rules}
+use Rattle.demand.proofs.Traces.{replies-says}
+use Rattle.demand.proofs.calls.entails.Goals as goal
+
+pub returns : goal.returns
+returns c = replies-says c.entails.ensures

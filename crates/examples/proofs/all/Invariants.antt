@@ -1,0 +1,9 @@
+use lib.ListN.{length}
+use borrow.Author.Rules.{rules}
+use Rattle.examples.proofs.all.Given as goal
+
+abbrev pub invariant-loop-left : goal.invariant-loop-left
+invariant-loop-left l = length l.initial.space ≡ length l.space
+
+abbrev pub decreases-loop-left : goal.decreases-loop-left
+decreases-loop-left l = l.left

@@ -1,0 +1,6 @@
+use borrow.Author.Rules.{rules}
+use Rattle.exports.proofs.FitLaws.{shown-number}
+use Rattle.exports.proofs.lf_counterexample.Goals as goal
+
+pub returns : goal.returns
+returns c = shown-number c.counterexample.ensures c.counted.ensures

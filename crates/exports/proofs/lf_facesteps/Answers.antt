@@ -1,0 +1,6 @@
+use borrow.Author.Rules.{rules}
+use Rattle.exports.proofs.FitLaws.{delivered-number}
+use Rattle.exports.proofs.lf_facesteps.Goals as goal
+
+pub returns : goal.returns
+returns c = delivered-number c.facesteps.result c.facesteps.ensures.delivers.equal c.length.ensures

@@ -1,0 +1,7 @@
+use borrow.Author.Rules.{rules}
+use mathlib.Core.Path.{ap, ◌∙◌}
+use Rattle.numbers.specs.Answers.{count_number}
+use Rattle.exports.proofs.lf_fence_interval.Goals as goal
+
+pub returns : goal.returns
+returns c = c.counted.ensures ∙ ap count_number c.count.ensures

@@ -1,0 +1,6 @@
+use borrow.Author.Rules.{rules}
+use Rattle.exports.proofs.FitLaws.{delivered-number}
+use Rattle.exports.proofs.lf_read_face.Goals as goal
+
+pub returns : goal.returns
+returns c = delivered-number c.read_formula.result c.read_formula.ensures.equal c.length.ensures

@@ -1,0 +1,14 @@
+use Prim.Native.Nat.{◌-◌}
+use native.Mathlib.Omega.{arith}
+use mathlib.Core.Path.{sym, ◌∙◌}
+use mathlib.Core.Logic.{⊎_elim}
+use lib.ListN.{length}
+use Rattle.clauses.specs.Words.{bits}
+use Rattle.forms.proofs.PutLaws.{Spelling, spelling-start, spelling-length, spelling-as, spelling-rank, spelling-narrow, spelling-room, spelling-next, spelling-skip, spelling-end}
+use Rattle.forms.proofs.put_literals.Given as goal
+
+abbrev pub invariant-loop-left : goal.invariant-loop-left
+invariant-loop-left l = Spelling l.numbers (bits l.c) l.initial.out l.to l.out l.at l.left l.rank
+
+abbrev pub decreases-loop-left : goal.decreases-loop-left
+decreases-loop-left l = length l.numbers - l.rank

@@ -1,0 +1,37 @@
+use borrow.Author.Rules.{rules}
+use Prim.Native.Nat.{ℕ, ◌+◌, ◌-◌, max}
+use native.Mathlib.Omega.{arith}
+use mathlib.Core.Path.{refl, sym, ap, ◌∙◌}
+use lib.ListN.{length, drop}
+use borrow.Author.Tests.{le-leb, lt-leb}
+use Rattle.formula.specs.declared.Kind.TheVariants.{Nullary, Literal, Unary, Binary, Unknown}
+use Rattle.formula.proofs.WalkLaws.{Walking, walking-outside, walking_start, walking-few, walking-broken, walking_on, on-eq, finish-zero}
+use Rattle.formula.proofs.walk.walk_from.Goals as goal
+use Rattle.formula.proofs.walk.walk_from.Goals.{in-Nullary, in-Literal+else-s-e-lt-DIM, in-Unary, in-Binary}
+
+pub returns-then-s-at : goal.returns-then-s-at
+returns-then-s-at c = walking-outside c.args.sort c.args.s.now c.args.at c.if-s-at.true
+
+pub loop-pending-init : goal.loop-pending-init
+loop-pending-init c = walking_start c.args.sort c.args.s.now c.args.at (omega arith)
+
+pub returns-then-s-e : goal.returns-then-s-e
+returns-then-s-e c = walking-few c.args.sort c.loop-pending.invariant (omega arith) (omega arith)
+
+pub returns-then-s-e-lt-DIM : goal.returns-then-s-e-lt-DIM
+returns-then-s-e-lt-DIM c = walking-broken c.args.sort c.loop-pending.invariant (omega arith) (omega arith) Literal (sym c.in-Literal.is ∙ c.kind_of.ensures) (simp (lt-leb _ _ c.if-s-e-lt-DIM.true))
+
+pub returns-in-Unknown : goal.returns-in-Unknown
+returns-in-Unknown c = walking-broken c.args.sort c.loop-pending.invariant (omega arith) (omega arith) Unknown (sym c.in-Unknown.is ∙ c.kind_of.ensures) refl
+
+pub loop-pending-preserved : goal.loop-pending-preserved
+loop-pending-preserved c =
+    elim c.match-kind_of.branch [
+      | in-Nullary w ↦ walking_on c.args.sort c.loop-pending.invariant (omega arith) (omega arith) Nullary (sym w.in-Nullary.is ∙ c.kind_of.ensures) _ (on-eq w.e-is w.pending-is w.bound-is) (omega arith) (omega arith) refl
+      | in-Literal+else-s-e-lt-DIM w ↦ walking_on c.args.sort c.loop-pending.invariant (omega arith) (omega arith) Literal (sym w.in-Literal.is ∙ c.kind_of.ensures) _ (simp (le-leb _ _ w.if-s-e-lt-DIM.false) (on-eq w.e-is w.pending-is (w.bound-is ∙ w.larger-bound.ensures ∙ ap (λ (n : ℕ). max c.loop-pending.bound (n + 1)) w.dim_at.ensures.0))) (omega arith) (omega arith) refl
+      | in-Unary w ↦ walking_on c.args.sort c.loop-pending.invariant (omega arith) (omega arith) Unary (sym w.in-Unary.is ∙ c.kind_of.ensures) _ (on-eq w.e-is w.pending-is w.bound-is) (omega arith) (omega arith) refl
+      | in-Binary w ↦ walking_on c.args.sort c.loop-pending.invariant (omega arith) (omega arith) Binary (sym w.in-Binary.is ∙ c.kind_of.ensures) _ (on-eq w.e-is w.pending-is w.bound-is) (omega arith) (omega arith) refl
+    ]
+
+pub returns : goal.returns
+returns c = sym (finish-zero c.args.sort _ (drop c.loop-pending.e c.args.s.now) (omega arith)) ∙ c.loop-pending.invariant.ends

@@ -1,0 +1,8 @@
+use borrow.Author.Rules.{rules}
+use Rattle.calculus.specs.Door.{end_of}
+use Rattle.steps.proofs.RunLaws.{emits-same, emits-kind}
+use Rattle.implications.proofs.ImplicationLaws.{local-operands}
+use Rattle.implications.proofs.local.Goals as goal
+
+pub returns : goal.returns
+returns c = let a = c.args in emits-kind c.end_kind-kind.ensures (emits-same (local-operands (end_of a.hi) a.phi.now a.r.now c.number.ensures c.end_bytes-end.ensures) c.emit.ensures)

@@ -1,0 +1,14 @@
+use borrow.Author.Rules.{rules}
+use native.Mathlib.Nat.{mod-lt}
+use mathlib.Core.Path.{ap}
+use Prim.Native.Nat.{ℕ, ◌%◌}
+use Rattle.index.specs.Index.{bucket_of}
+use Rattle.index.proofs.bucket.bucket_of.Goals as goal
+
+-- !OLD goal nonzero-rem-result
+rem-result : tie.Need-nonzero-rem-result
+rem-result c = search rules
+
+pub returns : goal.returns
+unfolding bucket_of
+returns c = (ap (λ (n : ℕ). n % c.args.heads) c.hash.ensures, mod-lt c.hash.result c.requires)

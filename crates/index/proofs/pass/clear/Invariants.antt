@@ -1,0 +1,13 @@
+use native.Mathlib.Omega.{arith}
+use mathlib.Core.Path.{◌≡◌, refl, sym, ap, ◌∙◌}
+use Prim.Native.Nat.{ℕ, ◌-◌, ◌≤◌}
+use lib.ListN.{length, length-set, replicate}
+use lib.Seq.{sets}
+use Rattle.records.proofs.NumberLaws.{clear_step}
+use Rattle.index.proofs.pass.clear.Given as goal
+
+abbrev pub invariant-loop-i : goal.invariant-loop-i
+invariant-loop-i l = (sets l.x l.i (replicate (l.n - l.i) 0) ≡ sets l.initial.x 0 (replicate l.n 0)) × (l.i ≤ l.n) × (length l.x ≡ length l.initial.x)
+
+abbrev pub decreases-loop-i : goal.decreases-loop-i
+decreases-loop-i l = l.n - l.i

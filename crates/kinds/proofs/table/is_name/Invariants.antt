@@ -1,0 +1,15 @@
+use mathlib.Core.Bool.{Bool, ◌&&◌}
+use Prim.Native.Nat.{◌+◌, ◌≤◌, ◌-◌}
+use native.Mathlib.Omega.{arith}
+use borrow.Author.Rules.{rules}
+use borrow.Author.Tests.{eq-eqb, ne_eqb}
+use lib.ListN.{length, drop}
+use Rattle.formula.specs.Answers.{same_bytes}
+use Rattle.formula.proofs.ByteLaws.{same-lengths, same_at, same_ends}
+use Rattle.kinds.proofs.table.is_name.Given as goal
+
+abbrev pub invariant-loop-i : goal.invariant-loop-i
+invariant-loop-i l = (l.i ≤ length l.s) × (length (name_bytes l.kind) ≡ length l.s) × (same_bytes (drop l.i (name_bytes l.kind)) (drop l.i l.s) ≡ same_bytes (name_bytes l.kind) l.s)
+
+abbrev pub decreases-loop-i : goal.decreases-loop-i
+decreases-loop-i l = length l.s - l.i

@@ -1,0 +1,12 @@
+use native.Mathlib.Omega.{arith}
+use mathlib.Core.Path.{◌≡◌, ap, ◌∙◌}
+use Prim.Native.Nat.{◌-◌, ◌≤◌}
+use Rattle.ledger.specs.Ledger.{steps_of, place_of, Points}
+use Rattle.ledger.proofs.PointLaws.{Walks, walks_next}
+use Rattle.ledger.proofs.steps.walk_to.Given as goal
+
+abbrev pub invariant-loop-step : goal.invariant-loop-step
+invariant-loop-step l = Walks l.l l.step l.at × (l.step ≤ l.i)
+
+abbrev pub decreases-loop-step : goal.decreases-loop-step
+decreases-loop-step l = l.i - l.step

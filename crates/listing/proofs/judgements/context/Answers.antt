@@ -1,0 +1,26 @@
+use borrow.Author.Rules.{rules}
+use native.Mathlib.Omega.{arith}
+use Rattle.writing.proofs.FormulaLaws.{fronts-part, prints-part}
+use Rattle.listing.proofs.ValueLaws.{context-long, context-asks, context-within, context-prints}
+use Rattle.listing.proofs.judgements.context.Goals as goal
+
+pub get2-n-requires : goal.get2-n-requires
+get2-n-requires c = context-long c.args.f.now c.requires
+
+pub slice_bounds-faces-count : goal.slice_bounds-faces-count
+slice_bounds-faces-count c = omega (arith, context-long c.args.f.now c.requires)
+
+pub slice_bounds-faces-start : goal.slice_bounds-faces-start
+slice_bounds-faces-start c = omega (arith, context-long c.args.f.now c.requires)
+
+pub slice_bounds-faces-end : goal.slice_bounds-faces-end
+slice_bounds-faces-end c = omega (arith, context-long c.args.f.now c.requires)
+
+pub faces-q-requires : goal.faces-q-requires
+faces-q-requires c = fronts-part 2 c.args.f.now (context-asks c.args.f.now c.get2-n.ensures.0 c.requires)
+
+pub overflow_add-result : goal.overflow_add-result
+overflow_add-result c = omega (arith, c.well-formed!OLD, context-within c.args.f.now c.get2-n.ensures.0 (prints-part 2 c.args.f.now c.faces-q.ensures) c.requires)
+
+pub returns : goal.returns
+returns c = context-prints c.args.f.now c.get2-n.ensures.0 (prints-part 2 c.args.f.now c.faces-q.ensures)

@@ -1,0 +1,13 @@
+use borrow.Author.Rules.{rules}
+use Rattle.replies.proofs.ReplyLaws.{end-inside}
+use Rattle.runs.proofs.ImplicationLaws.{entails-replies}
+use Rattle.runs.proofs.entailments.entails.Goals as goal
+
+pub run-r-requires : goal.run-r-requires
+run-r-requires c = (c.requires.0, (c.requires.1, c.requires.2, c.requires.3))
+
+pub ending-requires : goal.ending-requires
+ending-requires c = end-inside c.requires.0 c.run-r.ensures c.used-end.ensures
+
+pub returns : goal.returns
+returns c = let p = c.args in entails-replies p.d p.a.now p.b.now c.requires.0 c.requires.1 c.requires.2 c.requires.3 c.run-r.ensures c.used-end.ensures c.ending.ensures

@@ -1,0 +1,7 @@
+use Rattle.calculus.specs.Table.{text_bytes}
+use borrow.Author.Rules.{rules}
+use Rattle.text.proofs.words.is_zero.Goals as goal
+
+pub returns : goal.returns
+unfolding text_bytes
+returns c = c.same.ensures
