@@ -203,10 +203,11 @@ def turn(path, crate, listed):
     if "Need-" not in text:
         return "no goals in it"
     uses, invariants, answers, odd = [], [], [], 0
+    renames = {}
     for name, block in joined(blocks(text)):
         if block.startswith("use "):
             for line in block.split("\n"):
-                if not re.search(r"\.(Statement|Tie|Reads|Kinds)\b|\.Lts-|\.Lts as|borrow\.Fn|statement\}", line):
+                if not re.search(r"\.proofs\..*\.(Statement|Tie|Reads|Kinds)\b|\.Lts-|\.Lts as|borrow\.Fn|statement\}", line):
                     uses.append(line)
             continue
         if re.match(r"abbrev (pub )?(invariant|decreases)-", block):
@@ -246,15 +247,21 @@ def turn(path, crate, listed):
         new, at = found
         args = [a for a in eq[1].split() if a not in ("κs", "κ")]
         body = eq[2]
-        if TRIVIAL.match(body.strip()) or new in names.settled:
-            continue
+        trivial = TRIVIAL.match(body.strip()) or new in names.settled
         unf = re.search(r"(?m)^unfolding [^\n]*\n", block)
         var = args[-1] if args else "c"
         if var != "c":
             odd += 1
         body = PATH.sub(lambda m: names.path(at, m[1]), body)
         odd += body.count("!OLD")
-        answers.append(f"pub {new} : goal.{new}\n{unf[0] if unf else ''}{new} {' '.join(args)} = {body}".rstrip())
+        renames[name] = new
+        answers.append((trivial, name, f"pub {new} : goal.{new}\n{unf[0] if unf else ''}{new} {' '.join(args)} = {body}".rstrip()))
+    # An answer may cite another by its old name; what only calls the search stays where it is cited.
+    bodies = [a if isinstance(a, str) else a[2] for a in answers if isinstance(a, str) or not a[0]]
+    cited = {n for n in renames if any(re.search(r"(?<![\w.'-])" + re.escape(n) + r"(?![\w'-])", b.split("=", 1)[-1]) for b in bodies)}
+    answers = [a if isinstance(a, str) else a[2] for a in answers if isinstance(a, str) or not a[0] or a[1] in cited]
+    refs = {n: renames[n] for n in cited}
+    answers = [a.split(" = ", 1)[0] + " = " + substitute(a.split(" = ", 1)[1], refs) if refs and a.startswith("pub ") and " = " in a else a for a in answers]
     text = "\n\n".join(answers)
     words = set(re.findall(r"[^\s(){}\[\];,.]+", text))
 

@@ -3,6 +3,7 @@ use mathlib.Core.Path.{sym, ap, ◌∙◌}
 use Prim.Native.Nat.{ℕ}
 use native.Mathlib.Omega.{arith}
 use Rattle.calculus.specs.Table.{entry_of}
+use Rattle.kinds.specs.Kinds.{entry_as}
 use Rattle.ledger.proofs.PointLaws.{points-entry}
 use Rattle.kinds.proofs.KindLaws.{listed_same, not-unlisted}
 use Rattle.desk.proofs.ClaimLaws.{few-references}

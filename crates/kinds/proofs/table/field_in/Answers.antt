@@ -1,3 +1,4 @@
+use Rattle.kinds.specs.Kinds.{field_at}
 use Rattle.kinds.proofs.TableLaws.{rest-last, field_row}
 use Rattle.kinds.proofs.table.field_in.Goals as goal
 

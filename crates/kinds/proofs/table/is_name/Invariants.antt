@@ -6,6 +6,7 @@ use borrow.Author.Tests.{eq-eqb, ne_eqb}
 use lib.ListN.{length, drop}
 use Rattle.formula.specs.Answers.{same_bytes}
 use Rattle.formula.proofs.ByteLaws.{same-lengths, same_at, same_ends}
+use Rattle.kinds.specs.Kinds.{name_bytes}
 use Rattle.kinds.proofs.table.is_name.Given as goal
 
 abbrev pub invariant-loop-i : goal.invariant-loop-i

@@ -3,6 +3,7 @@ use Prim.Native.Nat.{ℕ, ◌+◌}
 use native.Mathlib.Omega.{arith}
 use lib.ListN.{get_or}
 use Rattle.calculus.specs.Table.{table, text_bytes}
+use Rattle.kinds.specs.Kinds.{names_of}
 use Rattle.kinds.proofs.TableLaws.{name-here, name-inside, named}
 use Rattle.kinds.proofs.table.name_at.Goals as goal
 

@@ -5,8 +5,8 @@ use borrow.Author.Rules.{rules}
 use lib.ListN.{length, take, set}
 use lib.Seq.{sets, length-sets, take_all}
 use Rattle.formula.proofs.ByteLaws.{copied_more}
+use Rattle.kinds.specs.Kinds.{name_bytes}
 use Rattle.kinds.proofs.table.put_name.Goals as goal
-
 -- The stores so far are those of the name's first bytes.
 use mathlib.Core.Path.{◌≡◌, refl, ap, ap₂, ◌∙◌}
 

@@ -5,6 +5,7 @@ use borrow.Author.Rules.{rules}
 use lib.ListN.{length, take, set}
 use lib.Seq.{sets, length-sets, take_all}
 use Rattle.formula.proofs.ByteLaws.{copied_more}
+use Rattle.kinds.specs.Kinds.{name_bytes}
 use Rattle.kinds.proofs.table.put_name.Given as goal
 
 abbrev pub invariant-loop-i : goal.invariant-loop-i

@@ -1,5 +1,6 @@
 use mathlib.Core.Path.{sym, ap}
 use Rattle.calculus.specs.Table.{table, text_bytes}
+use Rattle.kinds.specs.Kinds.{names_of, name_start, row_of}
 use Rattle.kinds.proofs.TableLaws.{rest-last}
 use Rattle.kinds.proofs.table.row_of.Goals as goal
 

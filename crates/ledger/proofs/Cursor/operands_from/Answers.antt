@@ -4,6 +4,7 @@ use mathlib.Core.Path.{sym, ap, ◌∙◌}
 use Rattle.ledger.proofs.PointLaws.{inside, points-entry}
 use Prim.Native.Nat.{ℕ, ◌+◌, ◌*◌}
 use Rattle.calculus.specs.Table.{entry_of}
+use Rattle.kinds.specs.Kinds.{entry_as}
 use Rattle.kinds.proofs.KindLaws.{listed_same, not-unlisted}
 use Rattle.ledger.proofs.Cursor.operands_from.Goals as goal
 

@@ -2,6 +2,7 @@ use borrow.Author.Rules.{rules}
 use mathlib.Core.Path.{sym, ap, ◌∙◌}
 use Rattle.ledger.proofs.PointLaws.{points-entry}
 use Rattle.calculus.specs.Table.{entry_of}
+use Rattle.kinds.specs.Kinds.{entry_as}
 use Rattle.kinds.proofs.KindLaws.{listed_same, not-unlisted}
 use Prim.Native.Nat.{ℕ}
 use Rattle.ledger.proofs.Cursor.predicate.Goals as goal

@@ -1,6 +1,7 @@
 use borrow.Author.Rules.{rules}
 use mathlib.Core.Path.{sym, ap}
 use mathlib.Core.List.{[], ◌∷◌, ◌++◌}
+use Rattle.kinds.specs.Kinds.{name_bytes}
 use Rattle.writing.proofs.WriteLaws.{room-first, room_next, room_as, wrote-next, wrote_as}
 use Rattle.listing.specs.Writing.{step_of}
 use Rattle.listing.proofs.LineLaws.{head-is}
