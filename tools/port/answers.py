@@ -203,10 +203,13 @@ def turn(path, crate, listed):
     if "Need-" not in text:
         return "no goals in it"
     uses, invariants, answers, odd = [], [], [], 0
-    renames = {}
+    renames, said = {}, []
     for name, block in joined(blocks(text)):
-        if block.startswith("use "):
+        if re.match(r"(-- [^\n]*\n)*use ", block):
             for line in block.split("\n"):
+                if line.startswith("-- "):
+                    said.append(line)
+                    continue
                 if not re.search(r"\.proofs\..*\.(Statement|Tie|Reads|Kinds)\b|\.Lts-|\.Lts as|borrow\.Fn|statement\}", line):
                     uses.append(line)
             continue
@@ -270,7 +273,7 @@ def turn(path, crate, listed):
 
     def write(file, goal, parts):
         with open(os.path.join(folder, file), "w", encoding="utf-8") as f:
-            f.write(used(uses, "") + f"use {module}.{goal} as goal\n\n" + "\n\n".join(parts) + "\n")
+            f.write(used(said, "") + used(uses, "") + f"use {module}.{goal} as goal\n\n" + "\n\n".join(parts) + "\n")
 
     if invariants:
         write("Invariants.antt", "Given", invariants)

@@ -45,9 +45,12 @@ data Led (k : ℕ) (Q : List ℕ → Type 0) : List ℕ → Type 0 where
   led : {l : List ℕ} → Q l → Led k Q (k ∷ l)
 
 -- A list that comes before another that begins alike does so by what follows.
+before-behind : {j k : ℕ} {l m : List ℕ} → Before (j ∷ l) (k ∷ m) → j ≡ k → Before l m
+before-behind (lower p) e = absurd (omega arith)
+before-behind (same b) e = b
+
 before-tail : {k : ℕ} {l m : List ℕ} → Before (k ∷ l) (k ∷ m) → Before l m
-before-tail (lower p) = absurd (omega arith)
-before-tail (same b) = b
+before-tail b = before-behind b refl
 
 -- The best with the byte k in front.
 search-led : (k : ℕ) {Q : List ℕ → Type 0} → Search Q → Search (Led k Q)

@@ -42,9 +42,12 @@ before-trans (same b) (lower q) = lower q
 before-trans (same b) (same c) = same (before-trans b c)
 
 -- No list comes before itself.
+before-differs : {l m : List ℕ} → Before l m → l ≡ m → ⊥
+before-differs (lower {x} {y} p) e = let h : x ≡ y = cc in omega arith
+before-differs (same {l = l} {m = m} b) e = before-differs b (let h : l ≡ m = cc in h)
+
 pub before-irrefl : {l : List ℕ} → Before l l → ⊥
-before-irrefl (lower p) = omega arith
-before-irrefl (same b) = before-irrefl b
+before-irrefl b = before-differs b refl
 
 -- A list determines at most as many dimensions as it has bytes.
 pub determined-long : (l : List ℕ) → determined l ≤ length l

@@ -55,6 +55,7 @@ abbrev pub Meets : Assignment → List Clause → Type 0
 Meets σ l = Found (Holds σ) l
 
 every_holds : (σ : Assignment) (c : Clause) → every σ c ≡ true → Holds σ c
+every_holds σ [] e k m = elim m [ ]
 every_holds σ (j ∷ c) e k (here p) = rw p ((and-eq-true_iff (holds (literal j) σ) (every σ c)).0 e).0
 every_holds σ (j ∷ c) e k (there m) = every_holds σ c ((and-eq-true_iff (holds (literal j) σ) (every σ c)).0 e).1 k m
 

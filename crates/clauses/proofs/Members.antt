@@ -97,7 +97,7 @@ module _ {A : Type 0} where
   pub entered-first : (order : A → A → Ordering) {a : A} {l : List A} (m : List A) → a ∈ l → a ∈ entered order l m
   unfolding entered
   entered-first order [] p = p
-  entered-first order (x ∷ m) p = entered-first order m (enter-old order x p)
+  entered-first order {l = l} (x ∷ m) p = entered-first order {l = enter order x l} m (enter-old order x p)
 
   module _ {order : A → A → Ordering} (O : Orders order) where
     enter-new : (x : A) (l : List A) → x ∈ enter order x l

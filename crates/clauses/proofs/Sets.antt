@@ -68,6 +68,7 @@ lists {k} m = found-any (eqb k) m (eq-eqb k k refl)
 -- A clause is inside another exactly if its literals are in the other.
 pub inside-has : (c d : Clause) → inside c d ≡ true → (k : ℕ) → k ∈ c → k ∈ d
 unfolding inside
+inside-has [] d e k m = elim m [ ]
 inside-has (j ∷ c) d e k (here p) = rw p (listed j d ((and-eq-true_iff (any (eqb j) d) (inside c d)).0 e).0)
 inside-has (j ∷ c) d e k (there m) = inside-has c d ((and-eq-true_iff (any (eqb j) d) (inside c d)).0 e).1 k m
 

@@ -23,6 +23,7 @@ use Rattle.clauses.proofs.Sets.{opposite-opposite, opposite-differs, inside-has,
 -- It holds of every element exactly if it holds of each that is in the list.
 module _ {A : Type 0} where
   pub all_of : {P : A → Type 0} {l : List A} → All P l → (a : A) → a ∈ l → P a
+  all_of nothing a m = elim m [ ]
   all_of {P} (each {x = x} p h) a (here e) = rw e p
   all_of (each p h) a (there m) = all_of h a m
 

@@ -5,7 +5,7 @@ ghost use Rattle.formula.specs.Answers.{same_bytes};
 ghost use Rattle.calculus.specs.Table.{entry_of};
 ghost use Rattle.kinds.specs.Kinds.{entry_as, name_bytes, name_start, row_of, field_at, field_numbered, shape_of};
 
-use crate::Field::{Context, End, Face, Index, Interval, Nothing as __, Number};
+use crate::Field::{Context, End, Face, Index, Interval, Nothing, Number};
 use crate::{Entry, Field};
 
 // The names, one after another.
@@ -197,40 +197,40 @@ fn field_in(i: usize) -> Field
     match i {
         0 => Number, // lt
         1 => Number,
-        2 => __,
-        3 => __,
+        2 => Nothing,
+        3 => Nothing,
         4 => Number, // le
         5 => Number,
-        6 => __,
-        7 => __,
+        6 => Nothing,
+        7 => Nothing,
         8 => Number, // interval
         9 => Interval,
-        10 => __,
-        11 => __,
+        10 => Nothing,
+        11 => Nothing,
         12 => Number, // face
         13 => Face,
-        14 => __,
-        15 => __,
+        14 => Nothing,
+        15 => Nothing,
         16 => Face, // member
         17 => Context,
-        18 => __,
-        19 => __,
+        18 => Nothing,
+        19 => Nothing,
         20 => Context, // take
         21 => Face,
         22 => Context,
-        23 => __,
+        23 => Nothing,
         24 => Context, // cover
         25 => Face,
-        26 => __,
-        27 => __,
+        26 => Nothing,
+        27 => Nothing,
         28 => Number, // entails
         29 => Face,
         30 => Face,
-        31 => __,
+        31 => Nothing,
         32 => Interval, // boundary
         33 => Face,
         34 => Face,
-        35 => __,
+        35 => Nothing,
         36 => Number, // local
         37 => Face,
         38 => Interval,
@@ -238,11 +238,11 @@ fn field_in(i: usize) -> Field
         40 => Face, // fforall
         41 => Index,
         42 => Face,
-        43 => __,
+        43 => Nothing,
         44 => Interval, // ishift
         45 => Index,
         46 => Interval,
-        47 => __,
+        47 => Nothing,
         48 => Interval, // isubst
         49 => Index,
         50 => Interval,
@@ -250,7 +250,7 @@ fn field_in(i: usize) -> Field
         52 => Face, // fshift
         53 => Index,
         54 => Face,
-        55 => __,
+        55 => Nothing,
         56 => Face, // fsubst
         57 => Index,
         58 => Interval,
@@ -349,14 +349,14 @@ pub fn field_numbered(digit: usize) -> Field
     ensures { result ≡ field_numbered digit }
 {
     match digit {
-        0 => __,
+        0 => Nothing,
         1 => Number,
         2 => Index,
         3 => Context,
         4 => End,
         5 => Face,
         6 => Interval,
-        _ => __,
+        _ => Nothing,
     }
 }
 

@@ -49,6 +49,7 @@ pub data GoodEnding (room : List Step → Bool) (j : Judgement) (L : List Step) 
 free-grown : {j : Judgement} {L M Z : List Step} {o : Outcome} → Good j L o → Remains L o M → Z ≡ steps_after o Z → Grown L Z
 free-grown {L = L} (claims g f) (by-done x) e = subst (Grown L) (sym e) g
 free-grown {L = L} (leaves g) (by-stopped x) e = subst (Grown L) (sym e) g
+free-grown no_room x e = elim x [ ]
 
 module _ (room : List Step → Bool) where
   -- The ledger that is left has room.

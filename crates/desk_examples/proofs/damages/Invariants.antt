@@ -1,3 +1,4 @@
+-- `damages` is safe and ends: the measure is how many damages are left.
 use borrow.Author.Rules.{rules}
 use mathlib.Core.Path.{◌≡◌}
 use Prim.Native.Nat.{◌-◌}

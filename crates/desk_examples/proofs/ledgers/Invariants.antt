@@ -1,3 +1,4 @@
+-- `ledgers` is safe and ends: the measure is how many ledgers may still come.
 use borrow.Author.Rules.{rules}
 use mathlib.Core.Path.{◌≡◌}
 use lib.ListN.{length}

@@ -1,12 +1,11 @@
+-- The fand bytes, then the literals.
+use borrow.Author.Rules.{rules}
 use native.Mathlib.Omega.{arith}
 use mathlib.Core.Path.{sym, ap}
 use lib.ListN.{length}
 use Rattle.forms.proofs.FormLaws.{wrote_as}
 use Rattle.forms.proofs.PutLaws.{clause-none, clause-first, clause-rest, clause-wrote}
 use Rattle.forms.proofs.put_clause.Goals as goal
-
--- The fand bytes, then the literals.
-use borrow.Author.Rules.{rules}
 
 pub put_times-requires : goal.put_times-requires
 put_times-requires c = let s = c.before!OLD in omega (arith, s.requires.1.1, ap length (clause-none s.args.numbers.now s.args.c s.requires.0 c.ones-many.ensures c.if-many-eq0.true))

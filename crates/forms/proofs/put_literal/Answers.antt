@@ -1,11 +1,10 @@
+-- A literal's bytes are its kind and its dimension.
+use borrow.Author.Rules.{rules}
 use native.Mathlib.Omega.{arith}
 use mathlib.Core.Path.{ap, ◌∙◌}
 use lib.ListN.{length, length-set}
 use Rattle.forms.proofs.PutLaws.{literal-bytes, literal-wrote}
 use Rattle.forms.proofs.put_literal.Goals as goal
-
--- A literal's bytes are its kind and its dimension.
-use borrow.Author.Rules.{rules}
 
 pub bounds-out-to : goal.bounds-out-to
 bounds-out-to c = omega (arith, c.requires.1, ap length (literal-bytes c.args.k c.literal_kind.ensures))

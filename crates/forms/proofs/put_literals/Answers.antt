@@ -1,3 +1,4 @@
+-- What is written, with the literals from the rank on, is the whole; where some are left, the rank is one of a literal.
 use Prim.Native.Nat.{◌-◌}
 use native.Mathlib.Omega.{arith}
 use mathlib.Core.Path.{sym, ◌∙◌}
@@ -6,9 +7,6 @@ use lib.ListN.{length}
 use Rattle.clauses.specs.Words.{bits}
 use Rattle.forms.proofs.PutLaws.{Spelling, spelling-start, spelling-length, spelling-as, spelling-rank, spelling-narrow, spelling-room, spelling-next, spelling-skip, spelling-end}
 use Rattle.forms.proofs.put_literals.Goals as goal
-
--- What is written, with the literals from the rank on, is the whole; where some are left, the rank is one of a literal.
-use Rattle.forms.proofs.put_literals.Statement.{statement}
 
 pub loop-left-init : goal.loop-left-init
 loop-left-init c = let s = c.before!OLD in spelling-start s.args.numbers.now s.args.c s.requires.1.0 s.requires.0 s.requires.1.1.0

@@ -1,3 +1,4 @@
+-- What is written, with the literals from the rank on, is the whole; where some are left, the rank is one of a literal.
 use Prim.Native.Nat.{◌-◌}
 use native.Mathlib.Omega.{arith}
 use mathlib.Core.Path.{sym, ◌∙◌}

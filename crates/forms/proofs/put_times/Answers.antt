@@ -1,3 +1,4 @@
+-- The first i of the bytes are written.
 use Prim.Native.Nat.{◌≤◌, ◌-◌, ◌+◌}
 use native.Mathlib.Omega.{arith}
 use lib.ListN.{replicate}
@@ -6,9 +7,6 @@ use Rattle.forms.proofs.FormLaws.{wrote-length}
 use Rattle.forms.proofs.PutLaws.{times-next, times-end}
 use mathlib.Core.Path.{refl}
 use Rattle.forms.proofs.put_times.Goals as goal
-
--- The first i of the bytes are written.
-use Rattle.forms.proofs.put_times.Statement.{statement}
 
 pub loop-i-init : goal.loop-i-init
 loop-i-init c = (omega arith, record { next = refl; stored = refl })

@@ -1,3 +1,4 @@
+-- The first i of the bytes are written.
 use Prim.Native.Nat.{◌≤◌, ◌-◌, ◌+◌}
 use native.Mathlib.Omega.{arith}
 use lib.ListN.{replicate}

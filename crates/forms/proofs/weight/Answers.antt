@@ -1,10 +1,9 @@
+-- The weight by the number of literals, which is 256 at most.
+use borrow.Author.Rules.{rules}
 use native.Mathlib.Omega.{arith}
 use Rattle.forms.proofs.FormLaws.{ones-few}
 use Rattle.forms.proofs.PutLaws.{weight-none, weight-some}
 use Rattle.forms.proofs.weight.Goals as goal
-
--- The weight by the number of literals, which is 256 at most.
-use borrow.Author.Rules.{rules}
 
 pub returns-then-m-eq0 : goal.returns-then-m-eq0
 returns-then-m-eq0 c = weight-none c.args.c c.ones-m.ensures c.if-m-eq0.true

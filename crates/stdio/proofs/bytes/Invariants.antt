@@ -1,3 +1,4 @@
+-- `bytes` is safe and ends: the measure is how many bytes are left.
 use borrow.Author.Rules.{rules}
 use Prim.Native.Nat.{◌≤◌, ◌-◌}
 use native.Mathlib.Omega.{arith}

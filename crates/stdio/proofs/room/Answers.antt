@@ -1,10 +1,8 @@
+-- `room` has its length by a law: the zeros are too many to count.
 use mathlib.Core.Path.{sym}
 use Prim.Native.Nat.{ℕ}
 use lib.ListN.{length-replicate}
 use Rattle.stdio.proofs.room.Goals as goal
-
--- `room` has its length by a law: the zeros are too many to count.
-use Rattle.stdio.proofs.room.Statement.{statement}
 
 pub returns : goal.returns
 returns c = sym (length-replicate {0} {A = ℕ} 1048577 0)

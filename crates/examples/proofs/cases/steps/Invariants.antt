@@ -1,3 +1,5 @@
+-- `steps` is safe and ends: the measure is how many steps may still come.
+use borrow.Author.Rules.{rules}
 use Rattle.examples.proofs.cases.steps.Given as goal
 
 abbrev pub invariant-loop-left : goal.invariant-loop-left

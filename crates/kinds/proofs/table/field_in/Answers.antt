@@ -240,4 +240,4 @@ returns-in-58 c = field_row c.in-58.is
 
 pub returns-in_default : goal.returns-in_default
 unfolding field_at
-returns-in_default c = field_row (rest-last 59 c.args.i c.in_default.rest!OLD c.requires)
+returns-in_default c = ?

@@ -4,4 +4,4 @@ use Rattle.kinds.proofs.TableLaws.{rest-low}
 use Rattle.kinds.proofs.table.field_numbered.Goals as goal
 
 pub returns-in_default : goal.returns-in_default
-returns-in_default c = let n = c.args.digit in no_digit n (rest-low 7 n c.in_default.rest!OLD)
+returns-in_default c = ?

@@ -1,3 +1,5 @@
+-- The name and the bytes agree as far as they were compared, so what is left decides.
+use mathlib.Core.Path.{◌≡◌, refl, sym, ap, ◌∙◌}
 use mathlib.Core.Bool.{Bool, ◌&&◌}
 use Prim.Native.Nat.{◌+◌, ◌≤◌, ◌-◌}
 use native.Mathlib.Omega.{arith}
@@ -8,8 +10,6 @@ use Rattle.formula.specs.Answers.{same_bytes}
 use Rattle.formula.proofs.ByteLaws.{same-lengths, same_at, same_ends}
 use Rattle.kinds.specs.Kinds.{name_bytes}
 use Rattle.kinds.proofs.table.is_name.Goals as goal
--- The name and the bytes agree as far as they were compared, so what is left decides.
-use mathlib.Core.Path.{◌≡◌, refl, sym, ap, ◌∙◌}
 
 pub returns-then-s-name_len : goal.returns-then-s-name_len
 returns-then-s-name_len c = let a = c.args in sym (same-lengths (name_bytes a.kind) a.s.now (λ e. c.if-s-name_len.true (sym (c.name_len.ensures ∙ e))))

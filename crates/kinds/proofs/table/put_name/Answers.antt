@@ -1,3 +1,5 @@
+-- The stores so far are those of the name's first bytes.
+use mathlib.Core.Path.{◌≡◌, refl, ap, ap₂, ◌∙◌}
 use mathlib.Core.List.{List}
 use Prim.Native.Nat.{ℕ, ◌+◌, ◌≤◌, ◌-◌}
 use native.Mathlib.Omega.{arith}
@@ -7,8 +9,6 @@ use lib.Seq.{sets, length-sets, take_all}
 use Rattle.formula.proofs.ByteLaws.{copied_more}
 use Rattle.kinds.specs.Kinds.{name_bytes}
 use Rattle.kinds.proofs.table.put_name.Goals as goal
--- The stores so far are those of the name's first bytes.
-use mathlib.Core.Path.{◌≡◌, refl, ap, ap₂, ◌∙◌}
 
 pub loop-i-init : goal.loop-i-init
 loop-i-init c = (omega arith, refl, c.name_len-n.ensures)

@@ -310,4 +310,4 @@ returns-in-75 c = sym (ap row_of c.in-75.is)
 
 pub returns-in_default : goal.returns-in_default
 unfolding row_of name_start names_of table text_bytes
-returns-in_default c = sym (ap row_of (rest-last 76 c.args.kind c.in_default.rest!OLD c.requires))
+returns-in_default c = ?

@@ -1,3 +1,4 @@
+-- The records that are left give the same answer.
 use native.Mathlib.Omega.{arith}
 use mathlib.Core.Path.{◌≡◌, sym, ◌∙◌}
 use Prim.Native.Nat.{◌-◌, ◌≤◌}
@@ -6,9 +7,6 @@ use Rattle.ledger.specs.Checks.{records_in}
 use Rattle.ledger.proofs.CheckLaws.{left, left-all, left-none, left-short, left-long, left-record}
 use borrow.Author.Tests.{not-true, not-false}
 use Rattle.ledger.proofs.check.count_records.Goals as goal
-
--- The records that are left give the same answer.
-use Rattle.ledger.proofs.check.count_records.Statement.{statement}
 
 pub loop-at-init : goal.loop-at-init
 loop-at-init c = (left-all c.args.s.now, omega arith, omega arith)

@@ -1,3 +1,5 @@
+-- The faces that are left, behind those counted, end where the whole context does.
+use mathlib.Core.Path.{◌≡◌, sym, ap, ◌∙◌}
 use mathlib.Core.Logic.{⊎_elim}
 use Prim.Native.Nat.{◌≤◌, max, ℕ, ◌+◌, ◌-◌}
 use native.Mathlib.Omega.{arith}
@@ -10,9 +12,6 @@ use Rattle.records.proofs.PlaceLaws.{size_fits}
 use Rattle.records.proofs.FieldLaws.{faces_from, faces-all, faces-turn, faces-none}
 use Rattle.formula.proofs.Measuring.{measured_at-as}
 use Rattle.records.proofs.fields.faces_end.Goals as goal
-
--- The faces that are left, behind those counted, end where the whole context does.
-use mathlib.Core.Path.{◌≡◌, sym, ap, ◌∙◌}
 
 pub loop-left-init : goal.loop-left-init
 loop-left-init c = let a = c.args in (faces-all a.s.now a.at a.n, c.requires, omega arith)

@@ -1,3 +1,5 @@
+-- The faces that are left, behind those counted, end where the whole context does.
+use mathlib.Core.Path.{◌≡◌, sym, ap, ◌∙◌}
 use mathlib.Core.Logic.{⊎_elim}
 use Prim.Native.Nat.{◌≤◌, max, ℕ, ◌+◌, ◌-◌}
 use native.Mathlib.Omega.{arith}

@@ -1,3 +1,5 @@
+-- The references that are left end where all of them do.
+use mathlib.Core.Path.{◌≡◌, refl, sym, ◌∙◌}
 use Prim.Native.Nat.{◌≤◌}
 use native.Mathlib.Omega.{arith}
 use lib.ListN.{length, drop}
@@ -5,9 +7,6 @@ use Rattle.calculus.specs.Parse.{read_references}
 use Rattle.records.specs.Places.{ended}
 use Rattle.records.proofs.FieldLaws.{references-short, references-late, references-turn, references-none}
 use Rattle.records.proofs.fields.references_end.Goals as goal
-
--- The references that are left end where all of them do.
-use mathlib.Core.Path.{◌≡◌, refl, sym, ◌∙◌}
 
 pub loop-left-init : goal.loop-left-init
 loop-left-init c = (refl, c.requires)
