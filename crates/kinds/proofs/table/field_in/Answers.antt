@@ -1,3 +1,4 @@
+use Rattle.std.proofs.Common.{◌≡◌, sym, arith}
 use Rattle.kinds.specs.Kinds.{field_at}
 use Rattle.kinds.proofs.TableLaws.{rest-last, field_row}
 use Rattle.kinds.proofs.table.field_in.Goals as goal
@@ -240,4 +241,4 @@ returns-in-58 c = field_row c.in-58.is
 
 pub returns-in_default : goal.returns-in_default
 unfolding field_at
-returns-in_default c = ?
+returns-in_default c = let e : c.args.i ≡ 59 = omega arith in field_row e

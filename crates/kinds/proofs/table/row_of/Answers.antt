@@ -1,4 +1,4 @@
-use mathlib.Core.Path.{sym, ap}
+use Rattle.std.proofs.Common.{◌≡◌, sym, ap, arith}
 use Rattle.calculus.specs.Table.{table, text_bytes}
 use Rattle.kinds.specs.Kinds.{names_of, name_start, row_of}
 use Rattle.kinds.proofs.TableLaws.{rest-last}
@@ -310,4 +310,4 @@ returns-in-75 c = sym (ap row_of c.in-75.is)
 
 pub returns-in_default : goal.returns-in_default
 unfolding row_of name_start names_of table text_bytes
-returns-in_default c = ?
+returns-in_default c = let e : c.args.kind ≡ 76 = omega arith in sym (ap row_of e)

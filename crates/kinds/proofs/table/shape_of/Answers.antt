@@ -1,3 +1,4 @@
+use Rattle.std.proofs.Common.{◌≤◌, arith}
 use mathlib.Core.Path.{sym, ap}
 use Rattle.calculus.specs.Table.{table}
 use Rattle.kinds.specs.Kinds.{packed, shape_of}
@@ -310,4 +311,4 @@ unfolding shape_of packed table
 returns-in-75 c = sym (ap shape_of c.in-75.is)
 
 pub returns-in_default : goal.returns-in_default
-returns-in_default c = ?
+returns-in_default c = let h : 76 ≤ c.args.kind = omega arith in shape-above c.args.kind h
