@@ -5,10 +5,6 @@ use Prim.Native.Nat.{ℕ, ◌%◌}
 use Rattle.index.specs.Index.{bucket_of}
 use Rattle.index.proofs.bucket.bucket_of.Goals as goal
 
--- !OLD goal nonzero-rem-result
-rem-result : tie.Need-nonzero-rem-result
-rem-result c = search rules
-
 pub returns : goal.returns
 unfolding bucket_of
 returns c = (ap (λ (n : ℕ). n % c.args.heads) c.hash.ensures, mod-lt c.hash.result c.requires)
