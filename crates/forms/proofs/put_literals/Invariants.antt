@@ -1,11 +1,8 @@
 -- What is written, with the literals from the rank on, is the whole; where some are left, the rank is one of a literal.
 use Prim.Native.Nat.{◌-◌}
-use native.Mathlib.Omega.{arith}
-use mathlib.Core.Path.{sym, ◌∙◌}
-use mathlib.Core.Logic.{⊎_elim}
 use lib.ListN.{length}
 use Rattle.clauses.specs.Words.{bits}
-use Rattle.forms.proofs.PutLaws.{Spelling, spelling-start, spelling-length, spelling-as, spelling-rank, spelling-narrow, spelling-room, spelling-next, spelling-skip, spelling-end}
+use Rattle.forms.proofs.PutLaws.{Spelling}
 use Rattle.forms.proofs.put_literals.Given as goal
 
 abbrev pub invariant-loop-left : goal.invariant-loop-left

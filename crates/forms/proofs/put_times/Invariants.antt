@@ -1,11 +1,7 @@
 -- The first i of the bytes are written.
 use Prim.Native.Nat.{◌≤◌, ◌-◌, ◌+◌}
-use native.Mathlib.Omega.{arith}
 use lib.ListN.{replicate}
 use Rattle.forms.specs.Forms.{Wrote}
-use Rattle.forms.proofs.FormLaws.{wrote-length}
-use Rattle.forms.proofs.PutLaws.{times-next, times-end}
-use mathlib.Core.Path.{refl}
 use Rattle.forms.proofs.put_times.Given as goal
 
 abbrev pub invariant-loop-i : goal.invariant-loop-i

@@ -1,5 +1,4 @@
 -- The weight by the number of literals, which is 256 at most.
-use borrow.Author.Rules.{rules}
 use native.Mathlib.Omega.{arith}
 use Rattle.forms.proofs.FormLaws.{ones-few}
 use Rattle.forms.proofs.PutLaws.{weight-none, weight-some}

@@ -1,8 +1,6 @@
-use Prim.Native.Nat.{◌-◌}
 use native.Mathlib.Omega.{arith}
 use mathlib.Core.Path.{refl}
-use borrow.Author.Rules.{rules}
-use Rattle.literals.proofs.RowLaws.{Blanking, blanking-next, blanking-end}
+use Rattle.literals.proofs.RowLaws.{blanking-next, blanking-end}
 use Rattle.literals.proofs.rows.blank.Goals as goal
 
 pub loop-i-init : goal.loop-i-init

@@ -1,8 +1,5 @@
 use Prim.Native.Nat.{◌-◌}
-use native.Mathlib.Omega.{arith}
-use mathlib.Core.Path.{refl}
-use borrow.Author.Rules.{rules}
-use Rattle.literals.proofs.RowLaws.{Blanking, blanking-next, blanking-end}
+use Rattle.literals.proofs.RowLaws.{Blanking}
 use Rattle.literals.proofs.rows.blank.Given as goal
 
 abbrev pub invariant-loop-i : goal.invariant-loop-i

@@ -1,4 +1,3 @@
-use borrow.Author.Rules.{rules}
 use mathlib.Core.Path.{ap, ◌∙◌}
 use Rattle.clauses.specs.Words.{bits}
 use Rattle.clauses.proofs.WordLaws.{with-bits}

@@ -1,10 +1,8 @@
-use Prim.Native.Nat.{◌-◌}
 use native.Mathlib.Omega.{arith}
-use borrow.Author.Rules.{rules}
 use mathlib.Core.Path.{ap, ◌∙◌}
 use Rattle.clauses.specs.Words.{bits}
 use Rattle.clauses.proofs.Selecting.{bits_none}
-use Rattle.literals.proofs.MaskLaws.{Marking, marking-start, marking-next, marking-end}
+use Rattle.literals.proofs.MaskLaws.{marking-start, marking-next, marking-end}
 use Rattle.literals.proofs.rows.mask.Goals as goal
 
 pub loop-i-init : goal.loop-i-init

@@ -1,10 +1,6 @@
 use Prim.Native.Nat.{◌-◌}
-use native.Mathlib.Omega.{arith}
-use borrow.Author.Rules.{rules}
-use mathlib.Core.Path.{ap, ◌∙◌}
 use Rattle.clauses.specs.Words.{bits}
-use Rattle.clauses.proofs.Selecting.{bits_none}
-use Rattle.literals.proofs.MaskLaws.{Marking, marking-start, marking-next, marking-end}
+use Rattle.literals.proofs.MaskLaws.{Marking}
 use Rattle.literals.proofs.rows.mask.Given as goal
 
 abbrev pub invariant-loop-i : goal.invariant-loop-i

@@ -1,4 +1,3 @@
-use borrow.Author.Rules.{rules}
 use Rattle.literals.proofs.MaskLaws.{opposite-even, opposite-odd}
 use Rattle.literals.proofs.rows.opposite.Goals as goal
 

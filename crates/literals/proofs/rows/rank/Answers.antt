@@ -1,7 +1,4 @@
-use Prim.Native.Nat.{◌-◌}
-use borrow.Author.Rules.{rules}
-use lib.ListN.{length}
-use Rattle.literals.proofs.RowLaws.{Seeking, seeking-start, seeking-found, seeking-next, seeking-end}
+use Rattle.literals.proofs.RowLaws.{seeking-start, seeking-found, seeking-next, seeking-end}
 use Rattle.literals.proofs.rows.rank.Goals as goal
 
 pub loop-i-init : goal.loop-i-init

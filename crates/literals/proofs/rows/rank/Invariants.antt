@@ -1,7 +1,6 @@
 use Prim.Native.Nat.{◌-◌}
-use borrow.Author.Rules.{rules}
 use lib.ListN.{length}
-use Rattle.literals.proofs.RowLaws.{Seeking, seeking-start, seeking-found, seeking-next, seeking-end}
+use Rattle.literals.proofs.RowLaws.{Seeking}
 use Rattle.literals.proofs.rows.rank.Given as goal
 
 abbrev pub invariant-loop-i : goal.invariant-loop-i
