@@ -12,7 +12,6 @@ pub returns-in-Listed : goal.returns-in-Listed
 returns-in-Listed c = let a = c.args in (
   emit-as a.l.now c.emit_listed.new.l a.kind _ _ a.references a.operands.now _ (sym c.in-Listed.is ∙ c.entry_of.ensures) c.emit_listed.ensures.0,
   keeps-as a.l.now c.emit_listed.new.l c.emit_listed.new.x a.kind _ _ a.references a.operands.now (sym c.in-Listed.is ∙ c.entry_of.ensures) c.emit_listed.ensures.1,
-
 )
 
 pub returns-in-Unlisted : goal.returns-in-Unlisted
