@@ -19,64 +19,64 @@ pub step-requires : goal.step-requires
 step-requires t c = tt
 
 pub over-w-requires : goal.over-w-requires
-over-w-requires t c = known_at c.requires.1.3
+over-w-requires t c = known_at c.requires.3
 
 pub forall_end-requires : goal.forall_end-requires
 forall_end-requires t c = let a = c.args in
-    let v = viewed-at Faces a.f.now a.p c.requires.1.1 _ _ c.step.ensures c.in-Leaf.is in
-    (c.requires.1.0, at-spans c.requires.1.1 v.end, c.requires.1.2, at-spans c.requires.1.3 c.over-w.ensures)
+    let v = viewed-at Faces a.f.now a.p c.requires.1 _ _ c.step.ensures c.in-Leaf.is in
+    (c.requires.0, at-spans c.requires.1 v.end, c.requires.2, at-spans c.requires.3 c.over-w.ensures)
 
 pub over-w-requires-in-Lit : goal.over-w-requires-in-Lit
-over-w-requires-in-Lit t c = known_at c.requires.1.3
+over-w-requires-in-Lit t c = known_at c.requires.3
 
 pub between-x-requires : goal.between-x-requires
 between-x-requires t c = let a = c.args in
-    let v = viewed-at Faces a.f.now a.p c.requires.1.1 _ _ c.step.ensures c.in-Lit.is in
-    at-spans c.requires.1.1 v.end
+    let v = viewed-at Faces a.f.now a.p c.requires.1 _ _ c.step.ensures c.in-Lit.is in
+    at-spans c.requires.1 v.end
 
 pub between-requires : goal.between-requires
-between-requires t c = at-spans c.requires.1.3 c.over-w-in-Lit.ensures
+between-requires t c = at-spans c.requires.3 c.over-w-in-Lit.ensures
 
 pub forall_literal-requires : goal.forall_literal-requires
 forall_literal-requires t c = let a = c.args in
-    let v = viewed-at Faces a.f.now a.p c.requires.1.1 _ _ c.step.ensures c.in-Lit.is in
-    let e = between-part c.requires.1.1 c.between-x.ensures v.end in
-    (c.requires.1.0, subst (Known Faces) (sym e) c.requires.1.1.is, c.requires.1.2, subst (Literal Faces _) (sym e) (literal-of v.view), literal-image a.k c.requires.1.1 c.requires.1.3 e c.between.ensures c.over-w-in-Lit.ensures)
+    let v = viewed-at Faces a.f.now a.p c.requires.1 _ _ c.step.ensures c.in-Lit.is in
+    let e = between-part c.requires.1 c.between-x.ensures v.end in
+    (c.requires.0, subst (Known Faces) (sym e) c.requires.1.is, c.requires.2, subst (Literal Faces _) (sym e) (literal-of v.view), literal-image a.k c.requires.1 c.requires.3 e c.between.ensures c.over-w-in-Lit.ensures)
 
 pub nowhere-requires : goal.nowhere-requires
 nowhere-requires t c = tt
 
 pub inside-requires : goal.inside-requires
-inside-requires t c = (at-inside c.requires.1.3, pending-inside c.requires.1.3)
+inside-requires t c = (at-inside c.requires.3, pending-inside c.requires.3)
 
 pub forall_at-a-requires : goal.forall_at-a-requires
 forall_at-a-requires t c = let a = c.args in
-    let v = viewed-at Faces a.f.now a.p c.requires.1.1 _ _ c.step.ensures c.in-Two.is in
-    (less-left c.requires.1.1 v c.requires.0, (c.requires.1.0, v.left, c.requires.1.2, left-image (image-two Faces Faces (forall_of a.k) (forall-two a.k) v refl c.requires.1.3) c.inside.ensures))
+    let v = viewed-at Faces a.f.now a.p c.requires.1 _ _ c.step.ensures c.in-Two.is in
+    (less-left c.requires.1 v c.decreases, (c.requires.0, v.left, c.requires.2, left-image (image-two Faces Faces (forall_of a.k) (forall-two a.k) v refl c.requires.3) c.inside.ensures))
 
 pub is_done-requires : goal.is_done-requires
 is_done-requires t c = tt
 
 pub returns-then-not-is_done : goal.returns-then-not-is_done
 returns-then-not-is_done t c = let a = c.args in
-    let v = viewed-at Faces a.f.now a.p c.requires.1.1 _ _ c.step.ensures c.in-Two.is in
-    two-both-stop (beside a.k c.requires.1.1 c.requires.1.3 c.requires.1.2) v c.forall_at-a.ensures (sym c.is_done.ensures ∙ c.if-not-is_done.true)
+    let v = viewed-at Faces a.f.now a.p c.requires.1 _ _ c.step.ensures c.in-Two.is in
+    two-both-stop (beside a.k c.requires.1 c.requires.3 c.requires.2) v c.forall_at-a.ensures (sym c.is_done.ensures ∙ c.if-not-is_done.true)
 
 pub forall_at-b-requires : goal.forall_at-b-requires
 forall_at-b-requires t c = let a = c.args in
-    let v = viewed-at Faces a.f.now a.p c.requires.1.1 _ _ c.step.ensures c.in-Two.is in
+    let v = viewed-at Faces a.f.now a.p c.requires.1 _ _ c.step.ensures c.in-Two.is in
     let m = c.forall_at-a.ensures.moved (sym c.is_done.ensures ∙ c.if-not-is_done.false) in
-    (less-right c.requires.1.1 v m.0 c.requires.0, (runs-led c.forall_at-a.ensures.runs, right-at v m.0, c.requires.1.2, right-image (image-two Faces Faces (forall_of a.k) (forall-two a.k) v m.0 c.requires.1.3) c.inside.ensures m.1))
+    (less-right c.requires.1 v m.0 c.decreases, (runs-led c.forall_at-a.ensures.runs, right-at v m.0, c.requires.2, right-image (image-two Faces Faces (forall_of a.k) (forall-two a.k) v m.0 c.requires.3) c.inside.ensures m.1))
 
 pub is_done-requires-in-Two : goal.is_done-requires-in-Two
 is_done-requires-in-Two t c = tt
 
 pub returns-then-not-is_done-2 : goal.returns-then-not-is_done-2
 returns-then-not-is_done-2 t c = let a = c.args in
-    let v = viewed-at Faces a.f.now a.p c.requires.1.1 _ _ c.step.ensures c.in-Two.is in
+    let v = viewed-at Faces a.f.now a.p c.requires.1 _ _ c.step.ensures c.in-Two.is in
     let d = sym c.is_done.ensures ∙ c.if-not-is_done.false in
     let m = c.forall_at-a.ensures.moved d in
-    two-both-stop-right (beside a.k c.requires.1.1 c.requires.1.3 c.requires.1.2) v c.forall_at-a.ensures d c.forall_at-b.ensures (image-end (image-two Faces Faces (forall_of a.k) (forall-two a.k) v m.0 c.requires.1.3) c.inside.ensures m.1) (sym c.is_done-in-Two.ensures ∙ c.if-not-is_done-2.true)
+    two-both-stop-right (beside a.k c.requires.1 c.requires.3 c.requires.2) v c.forall_at-a.ensures d c.forall_at-b.ensures (image-end (image-two Faces Faces (forall_of a.k) (forall-two a.k) v m.0 c.requires.3) c.inside.ensures m.1) (sym c.is_done-in-Two.ensures ∙ c.if-not-is_done-2.true)
 
 pub step_of-i-requires : goal.step_of-i-requires
 step_of-i-requires t c = tt
@@ -86,27 +86,27 @@ step_of-j-requires t c = tt
 
 pub forall_end-requires-in-Two : goal.forall_end-requires-in-Two
 forall_end-requires-in-Two t c = let a = c.args in
-    let v = viewed-at Faces a.f.now a.p c.requires.1.1 _ _ c.step.ensures c.in-Two.is in
+    let v = viewed-at Faces a.f.now a.p c.requires.1 _ _ c.step.ensures c.in-Two.is in
     let m = c.forall_at-a.ensures.moved (sym c.is_done.ensures ∙ c.if-not-is_done.false) in
     let n = c.forall_at-b.ensures.moved (sym c.is_done-in-Two.ensures ∙ c.if-not-is_done-2.false) in
-    (runs-led c.forall_at-b.ensures.runs, at-spans c.requires.1.1 (two-end v m.0 n.0), c.requires.1.2, at-spans c.requires.1.3 (n.1 ∙ image-end (image-two Faces Faces (forall_of a.k) (forall-two a.k) v m.0 c.requires.1.3) c.inside.ensures m.1))
+    (runs-led c.forall_at-b.ensures.runs, at-spans c.requires.1 (two-end v m.0 n.0), c.requires.2, at-spans c.requires.3 (n.1 ∙ image-end (image-two Faces Faces (forall_of a.k) (forall-two a.k) v m.0 c.requires.3) c.inside.ensures m.1))
 
 pub nowhere-requires-in-Stuck : goal.nowhere-requires-in-Stuck
 nowhere-requires-in-Stuck t c = tt
 
 pub returns-in-Leaf : goal.returns-in-Leaf
 returns-in-Leaf t c = let a = c.args in
-    let v = viewed-at Faces a.f.now a.p c.requires.1.1 _ _ c.step.ensures c.in-Leaf.is in
-    leaf-both (beside a.k c.requires.1.1 c.requires.1.3 c.requires.1.2) v c.over-w.ensures c.forall_end.ensures
+    let v = viewed-at Faces a.f.now a.p c.requires.1 _ _ c.step.ensures c.in-Leaf.is in
+    leaf-both (beside a.k c.requires.1 c.requires.3 c.requires.2) v c.over-w.ensures c.forall_end.ensures
 
 pub returns-in-Lit : goal.returns-in-Lit
 returns-in-Lit t c = let a = c.args in
-    let v = viewed-at Faces a.f.now a.p c.requires.1.1 _ _ c.step.ensures c.in-Lit.is in
-    record { runs = part-runs Faces (emit_forall a.k) (between-part c.requires.1.1 c.between-x.ensures v.end) c.forall_literal.ensures; moved = λ x. (v.end, c.over-w-in-Lit.ensures) }
+    let v = viewed-at Faces a.f.now a.p c.requires.1 _ _ c.step.ensures c.in-Lit.is in
+    record { runs = part-runs Faces (emit_forall a.k) (between-part c.requires.1 c.between-x.ensures v.end) c.forall_literal.ensures; moved = λ x. (v.end, c.over-w-in-Lit.ensures) }
 
 pub returns-in-One : goal.returns-in-One
 returns-in-One t c = let a = c.args in
-    let v = viewed-at Faces a.f.now a.p c.requires.1.1 _ _ c.step.ensures c.in-One.is in
+    let v = viewed-at Faces a.f.now a.p c.requires.1 _ _ c.step.ensures c.in-One.is in
     no_one (tree_at Faces a.f.now a.p) v.view
 
 pub shape_of-l-else-not-is_done-2 : goal.shape_of-l-else-not-is_done-2
@@ -117,12 +117,12 @@ shape_of-ix-else-not-is_done-2 t c = c.forall_end-in-Two.auto.ix ∙ c.forall_at
 
 pub returns-else-not-is_done-2 : goal.returns-else-not-is_done-2
 returns-else-not-is_done-2 t c = let a = c.args in
-    let v = viewed-at Faces a.f.now a.p c.requires.1.1 _ _ c.step.ensures c.in-Two.is in
+    let v = viewed-at Faces a.f.now a.p c.requires.1 _ _ c.step.ensures c.in-Two.is in
     let d = sym c.is_done.ensures ∙ c.if-not-is_done.false in
     let m = c.forall_at-a.ensures.moved d in
-    two-both (beside a.k c.requires.1.1 c.requires.1.3 c.requires.1.2) v c.forall_at-a.ensures d c.forall_at-b.ensures (image-end (image-two Faces Faces (forall_of a.k) (forall-two a.k) v m.0 c.requires.1.3) c.inside.ensures m.1) (sym c.is_done-in-Two.ensures ∙ c.if-not-is_done-2.false) c.step_of-i.ensures c.step_of-j.ensures c.forall_end-in-Two.ensures
+    two-both (beside a.k c.requires.1 c.requires.3 c.requires.2) v c.forall_at-a.ensures d c.forall_at-b.ensures (image-end (image-two Faces Faces (forall_of a.k) (forall-two a.k) v m.0 c.requires.3) c.inside.ensures m.1) (sym c.is_done-in-Two.ensures ∙ c.if-not-is_done-2.false) c.step_of-i.ensures c.step_of-j.ensures c.forall_end-in-Two.ensures
 
 pub returns-in-Stuck : goal.returns-in-Stuck
 returns-in-Stuck t c = let a = c.args in
-    let v = viewed-at Faces a.f.now a.p c.requires.1.1 _ _ c.step.ensures c.in-Stuck.is in
+    let v = viewed-at Faces a.f.now a.p c.requires.1 _ _ c.step.ensures c.in-Stuck.is in
     absurd v

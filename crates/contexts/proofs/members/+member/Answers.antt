@@ -11,7 +11,7 @@ use Rattle.contexts.proofs.MemberLaws.{member-none, member-here, member-stop, me
 use Rattle.contexts.proofs.members.+member.Goals as goal
 
 pub returns-then-n-eq0 : goal.returns-then-n-eq0
-returns-then-n-eq0 t c = member-none c.requires.1.0 _ c.requires.1.2 c.if-n-eq0.true
+returns-then-n-eq0 t c = member-none c.requires.0 _ c.requires.2 c.if-n-eq0.true
 
 pub formula_at-h-requires : goal.formula_at-h-requires
 formula_at-h-requires t c = tt
@@ -23,28 +23,28 @@ pub count-requires : goal.count-requires
 count-requires t c = tt
 
 pub emit3-requires : goal.emit3-requires
-emit3-requires t c = (c.requires.1.0, omega (arith, is-short c.requires.1.1, ap length c.count.ensures, context-short c.requires.1.2))
+emit3-requires t c = (c.requires.0, omega (arith, is-short c.requires.1, ap length c.count.ensures, context-short c.requires.2))
 
 pub returns-then-same : goal.returns-then-same
-returns-then-same t c = member-here c.requires.1.1 c.requires.1.2 c.if-n-eq0.false c.formula_at-h.ensures (sym c.same.ensures ∙ c.if-same.true) c.count.ensures c.emit3.ensures
+returns-then-same t c = member-here c.requires.1 c.requires.2 c.if-n-eq0.false c.formula_at-h.ensures (sym c.same.ensures ∙ c.if-same.true) c.count.ensures c.emit3.ensures
 
 pub overflow_sub-n : goal.overflow_sub-n
 overflow_sub-n t c = omega (arith, c.if-n-eq0.false)
 
 pub slice_bounds-member-count : goal.slice_bounds-member-count
-slice_bounds-member-count t c = (first_of _ _ _ _ c.requires.1.2 c.if-n-eq0.false c.formula_at-h.ensures).inside
+slice_bounds-member-count t c = (first_of _ _ _ _ c.requires.2 c.if-n-eq0.false c.formula_at-h.ensures).inside
 
 pub slice_bounds-member-start : goal.slice_bounds-member-start
-slice_bounds-member-start t c = (first_of _ _ _ _ c.requires.1.2 c.if-n-eq0.false c.formula_at-h.ensures).inside
+slice_bounds-member-start t c = (first_of _ _ _ _ c.requires.2 c.if-n-eq0.false c.formula_at-h.ensures).inside
 
 pub member-r-requires : goal.member-r-requires
-member-r-requires t c = (omega (arith, c.requires.0, c.if-n-eq0.false), (c.requires.1.0, c.requires.1.1, context-as (first_of _ _ _ _ c.requires.1.2 c.if-n-eq0.false c.formula_at-h.ensures).others))
+member-r-requires t c = (omega (arith, c.decreases, c.if-n-eq0.false), (c.requires.0, c.requires.1, context-as (first_of _ _ _ _ c.requires.2 c.if-n-eq0.false c.formula_at-h.ensures).others))
 
 pub is_done-requires : goal.is_done-requires
 is_done-requires t c = tt
 
 pub returns-then-not-is_done : goal.returns-then-not-is_done
-returns-then-not-is_done t c = member-stop c.requires.1.1 c.requires.1.2 c.if-n-eq0.false c.formula_at-h.ensures (sym c.same.ensures ∙ c.if-same.false) c.member-r.ensures (sym c.is_done.ensures ∙ c.if-not-is_done.true)
+returns-then-not-is_done t c = member-stop c.requires.1 c.requires.2 c.if-n-eq0.false c.formula_at-h.ensures (sym c.same.ensures ∙ c.if-same.false) c.member-r.ensures (sym c.is_done.ensures ∙ c.if-not-is_done.true)
 
 pub step_of-requires : goal.step_of-requires
 step_of-requires t c = tt
@@ -53,7 +53,7 @@ pub count-requires-2 : goal.count-requires-2
 count-requires-2 t c = tt
 
 pub emit3-requires-2 : goal.emit3-requires-2
-emit3-requires-2 t c = (runs-led c.member-r.ensures, omega (arith, is-short c.requires.1.1, ap length c.count-2.ensures, context-short c.requires.1.2))
+emit3-requires-2 t c = (runs-led c.member-r.ensures, omega (arith, is-short c.requires.1, ap length c.count-2.ensures, context-short c.requires.2))
 
 pub returns : goal.returns
-returns t c = member-up c.requires.1.1 c.requires.1.2 c.if-n-eq0.false c.formula_at-h.ensures (sym c.same.ensures ∙ c.if-same.false) c.member-r.ensures (sym c.is_done.ensures ∙ c.if-not-is_done.false) c.step_of.ensures c.count-2.ensures c.emit3-2.ensures
+returns t c = member-up c.requires.1 c.requires.2 c.if-n-eq0.false c.formula_at-h.ensures (sym c.same.ensures ∙ c.if-same.false) c.member-r.ensures (sym c.is_done.ensures ∙ c.if-not-is_done.false) c.step_of.ensures c.count-2.ensures c.emit3-2.ensures
