@@ -80,14 +80,14 @@ class Names:
             if name == "in_default" and segs[1:] and segs[1].startswith("keys") and len(others) == 1:
                 return "c." + ".".join([name, others[0].replace("in-", "not-", 1)] + segs[2:])
             return "c." + ".".join([name] + segs[1:]) + "!OLD"
-        if segs[1:2] == ["auto"] and place[3] and segs[2:]:
+        if segs[1:2] in (["auto"], ["new"]) and place[3] and segs[2:]:
             # The length of a slice that was lent, by the slice's name.
             k = 0
             while segs[2 + k : 3 + k] == ["1"]:
                 k += 1
             params = self.params.get(place[3], [])
             if segs[2 + k : 3 + k] == ["0"] and k < len(params):
-                return "c." + ".".join([place[2][1], "auto", params[k]] + segs[3 + k :])
+                return "c." + ".".join([place[2][1], segs[1], params[k]] + segs[3 + k :])
         return "c." + ".".join([place[2][1]] + segs[1:])
 
 
@@ -256,6 +256,8 @@ def turn(path, crate, listed):
         if var != "c":
             odd += 1
         body = PATH.sub(lambda m: names.path(at, m[1]), body)
+        # A test of !x says now what it says of x.
+        body = re.sub(r"not-(?:true|false) _ (c\.[\w.'₀-₉-]+\.(?:true|false))", r"\1", body)
         odd += body.count("!OLD")
         renames[name] = new
         answers.append((trivial, name, f"pub {new} : goal.{new}\n{unf[0] if unf else ''}{new} {' '.join(args)} = {body}".rstrip()))

@@ -224,24 +224,24 @@ module _ (E : Env) where
 
   infixr 20 ◌then-by◌
   ◌then-by◌ : {ts us : List Token} {x y : List ℕ} {C D : Type 0} → Spells E ts x C → Spells E us y D → Spells E (ts ++ us) (x ++ y) (C × D)
-  a then_by b = ◌⊕◌ E a b
+  a then-by b = ◌⊕◌ E a b
 
   spells_j : (p : JudP) → Spells E (flat_j p) (operand_bytes (inst E p)) (Short (inst E p))
-  spells_j (Lt m n) = s_n m then_by s_n n
-  spells_j (Le m n) = s_n m then_by s_n n
-  spells_j (Int d r) = s_n d then_by s_i r
-  spells_j (Fac d f) = s_n d then_by s_f f
-  spells_j (Mem f G) = s_f f then_by spells_c E G
-  spells_j (Tak G f D) = spells_c E G then_by s_f f then_by spells_c E D
-  spells_j (Cov G g) = spells_c E G then_by s_f g
-  spells_j (Ent d a b) = s_n d then_by s_f a then_by s_f b
-  spells_j (Bnd r a b) = s_i r then_by s_f a then_by s_f b
-  spells_j (Loc d p r e) = s_n d then_by s_f p then_by s_i r then_by s_i e
-  spells_j (All f k o) = s_f f then_by s_n k then_by s_f o
-  spells_j (Ish r k o) = s_i r then_by s_n k then_by s_i o
-  spells_j (Isu r k s o) = s_i r then_by s_n k then_by s_i s then_by s_i o
-  spells_j (Fsh f k o) = s_f f then_by s_n k then_by s_f o
-  spells_j (Fsu f k s o) = s_f f then_by s_n k then_by s_i s then_by s_f o
+  spells_j (Lt m n) = s_n m then-by s_n n
+  spells_j (Le m n) = s_n m then-by s_n n
+  spells_j (Int d r) = s_n d then-by s_i r
+  spells_j (Fac d f) = s_n d then-by s_f f
+  spells_j (Mem f G) = s_f f then-by spells_c E G
+  spells_j (Tak G f D) = spells_c E G then-by s_f f then-by spells_c E D
+  spells_j (Cov G g) = spells_c E G then-by s_f g
+  spells_j (Ent d a b) = s_n d then-by s_f a then-by s_f b
+  spells_j (Bnd r a b) = s_i r then-by s_f a then-by s_f b
+  spells_j (Loc d p r e) = s_n d then-by s_f p then-by s_i r then-by s_i e
+  spells_j (All f k o) = s_f f then-by s_n k then-by s_f o
+  spells_j (Ish r k o) = s_i r then-by s_n k then-by s_i o
+  spells_j (Isu r k s o) = s_i r then-by s_n k then-by s_i s then-by s_i o
+  spells_j (Fsh f k o) = s_f f then-by s_n k then-by s_f o
+  spells_j (Fsu f k s o) = s_f f then-by s_n k then-by s_i s then-by s_f o
 
   pads : (k : ℕ) → Plain E (replicate k pad) []
   pads zero = bytes-plain E []

@@ -40,7 +40,7 @@ is_done-requires t c = tt
 pub returns-then-not-is_done : goal.returns-then-not-is_done
 returns-then-not-is_done t c = let a = c.args in
     let v = viewed-at Intervals a.r.now a.p c.requires.1.1 _ _ c.step.ensures c.in-One.is in
-    one-both-stop (beside c.requires.1.1 c.requires.1.2) v c.boundary_at-a.ensures (sym (same_end c.requires.1.2)) (sym c.is_done.ensures ∙ not-true _ c.if-not-is_done.true)
+    one-both-stop (beside c.requires.1.1 c.requires.1.2) v c.boundary_at-a.ensures (sym (same_end c.requires.1.2)) (sym c.is_done.ensures ∙ c.if-not-is_done.true)
 
 pub step_of-i-requires : goal.step_of-i-requires
 step_of-i-requires t c = tt
@@ -48,7 +48,7 @@ step_of-i-requires t c = tt
 pub boundary_end-requires-in-One : goal.boundary_end-requires-in-One
 boundary_end-requires-in-One t c = let a = c.args in
     let v = viewed-at Intervals a.r.now a.p c.requires.1.1 _ _ c.step.ensures c.in-One.is in
-    let m = c.boundary_at-a.ensures.moved (sym c.is_done.ensures ∙ not-false _ c.if-not-is_done.false) in
+    let m = c.boundary_at-a.ensures.moved (sym c.is_done.ensures ∙ c.if-not-is_done.false) in
     let s = ends-span c.requires.1.1 c.requires.1.2 (m.1 ∙ sym (same_end c.requires.1.2)) in
     (runs-led c.boundary_at-a.ensures.runs, at-spans c.requires.1.1 (m.0 ∙ v.end), s.0, s.1)
 
@@ -66,12 +66,12 @@ is_done-requires-in-Two t c = tt
 pub returns-then-not-is_done-2 : goal.returns-then-not-is_done-2
 returns-then-not-is_done-2 t c = let a = c.args in
     let v = viewed-at Intervals a.r.now a.p c.requires.1.1 _ _ c.step.ensures c.in-Two.is in
-    two-both-stop (beside c.requires.1.1 c.requires.1.2) v c.boundary_at-a-in-Two.ensures (sym c.is_done-in-Two.ensures ∙ not-true _ c.if-not-is_done-2.true)
+    two-both-stop (beside c.requires.1.1 c.requires.1.2) v c.boundary_at-a-in-Two.ensures (sym c.is_done-in-Two.ensures ∙ c.if-not-is_done-2.true)
 
 pub boundary_at-b-requires : goal.boundary_at-b-requires
 boundary_at-b-requires t c = let a = c.args in
     let v = viewed-at Intervals a.r.now a.p c.requires.1.1 _ _ c.step.ensures c.in-Two.is in
-    let m = c.boundary_at-a-in-Two.ensures.moved (sym c.is_done-in-Two.ensures ∙ not-false _ c.if-not-is_done-2.false) in
+    let m = c.boundary_at-a-in-Two.ensures.moved (sym c.is_done-in-Two.ensures ∙ c.if-not-is_done-2.false) in
     (less-right c.requires.1.1 v m.0 c.requires.0, (runs-led c.boundary_at-a-in-Two.ensures.runs, right-at v m.0, sides-right c.requires.1.1 c.requires.1.2 v c.inside.ensures m.0 m.1))
 
 pub is_done-requires-in-Two-2 : goal.is_done-requires-in-Two-2
@@ -80,9 +80,9 @@ is_done-requires-in-Two-2 t c = tt
 pub returns-then-not-is_done-3 : goal.returns-then-not-is_done-3
 returns-then-not-is_done-3 t c = let a = c.args in
     let v = viewed-at Intervals a.r.now a.p c.requires.1.1 _ _ c.step.ensures c.in-Two.is in
-    let d = sym c.is_done-in-Two.ensures ∙ not-false _ c.if-not-is_done-2.false in
+    let d = sym c.is_done-in-Two.ensures ∙ c.if-not-is_done-2.false in
     let m = c.boundary_at-a-in-Two.ensures.moved d in
-    two-both-stop-right (beside c.requires.1.1 c.requires.1.2) v c.boundary_at-a-in-Two.ensures d c.boundary_at-b.ensures (sides-end c.requires.1.1 c.requires.1.2 v c.inside.ensures m.0 m.1) (sym c.is_done-in-Two-2.ensures ∙ not-true _ c.if-not-is_done-3.true)
+    two-both-stop-right (beside c.requires.1.1 c.requires.1.2) v c.boundary_at-a-in-Two.ensures d c.boundary_at-b.ensures (sides-end c.requires.1.1 c.requires.1.2 v c.inside.ensures m.0 m.1) (sym c.is_done-in-Two-2.ensures ∙ c.if-not-is_done-3.true)
 
 pub step_of-i-requires-in-Two : goal.step_of-i-requires-in-Two
 step_of-i-requires-in-Two t c = tt
@@ -93,8 +93,8 @@ step_of-k-requires t c = tt
 pub boundary_end-requires-in-Two : goal.boundary_end-requires-in-Two
 boundary_end-requires-in-Two t c = let a = c.args in
     let v = viewed-at Intervals a.r.now a.p c.requires.1.1 _ _ c.step.ensures c.in-Two.is in
-    let m = c.boundary_at-a-in-Two.ensures.moved (sym c.is_done-in-Two.ensures ∙ not-false _ c.if-not-is_done-2.false) in
-    let n = c.boundary_at-b.ensures.moved (sym c.is_done-in-Two-2.ensures ∙ not-false _ c.if-not-is_done-3.false) in
+    let m = c.boundary_at-a-in-Two.ensures.moved (sym c.is_done-in-Two.ensures ∙ c.if-not-is_done-2.false) in
+    let n = c.boundary_at-b.ensures.moved (sym c.is_done-in-Two-2.ensures ∙ c.if-not-is_done-3.false) in
     let s = ends-span c.requires.1.1 c.requires.1.2 (n.1 ∙ sides-end c.requires.1.1 c.requires.1.2 v c.inside.ensures m.0 m.1) in
     (runs-led c.boundary_at-b.ensures.runs, at-spans c.requires.1.1 (two-end v m.0 n.0), s.0, s.1)
 
@@ -114,7 +114,7 @@ returns-in-Lit t c = let a = c.args in
 pub returns-else-not-is_done : goal.returns-else-not-is_done
 returns-else-not-is_done t c = let a = c.args in
     let v = viewed-at Intervals a.r.now a.p c.requires.1.1 _ _ c.step.ensures c.in-One.is in
-    one-both (beside c.requires.1.1 c.requires.1.2) v c.boundary_at-a.ensures (sym (same_end c.requires.1.2)) (sym c.is_done.ensures ∙ not-false _ c.if-not-is_done.false) c.step_of-i.ensures c.boundary_end-in-One.ensures
+    one-both (beside c.requires.1.1 c.requires.1.2) v c.boundary_at-a.ensures (sym (same_end c.requires.1.2)) (sym c.is_done.ensures ∙ c.if-not-is_done.false) c.step_of-i.ensures c.boundary_end-in-One.ensures
 
 pub shape_of-l-else-not-is_done-3 : goal.shape_of-l-else-not-is_done-3
 shape_of-l-else-not-is_done-3 t c = c.boundary_end-in-Two.auto.l ∙ c.boundary_at-b.auto.l ∙ c.boundary_at-a-in-Two.auto.l
@@ -125,9 +125,9 @@ shape_of-ix-else-not-is_done-3 t c = c.boundary_end-in-Two.auto.ix ∙ c.boundar
 pub returns-else-not-is_done-3 : goal.returns-else-not-is_done-3
 returns-else-not-is_done-3 t c = let a = c.args in
     let v = viewed-at Intervals a.r.now a.p c.requires.1.1 _ _ c.step.ensures c.in-Two.is in
-    let d = sym c.is_done-in-Two.ensures ∙ not-false _ c.if-not-is_done-2.false in
+    let d = sym c.is_done-in-Two.ensures ∙ c.if-not-is_done-2.false in
     let m = c.boundary_at-a-in-Two.ensures.moved d in
-    two-both (beside c.requires.1.1 c.requires.1.2) v c.boundary_at-a-in-Two.ensures d c.boundary_at-b.ensures (sides-end c.requires.1.1 c.requires.1.2 v c.inside.ensures m.0 m.1) (sym c.is_done-in-Two-2.ensures ∙ not-false _ c.if-not-is_done-3.false) c.step_of-i-in-Two.ensures c.step_of-k.ensures c.boundary_end-in-Two.ensures
+    two-both (beside c.requires.1.1 c.requires.1.2) v c.boundary_at-a-in-Two.ensures d c.boundary_at-b.ensures (sides-end c.requires.1.1 c.requires.1.2 v c.inside.ensures m.0 m.1) (sym c.is_done-in-Two-2.ensures ∙ c.if-not-is_done-3.false) c.step_of-i-in-Two.ensures c.step_of-k.ensures c.boundary_end-in-Two.ensures
 
 pub returns-in-Stuck : goal.returns-in-Stuck
 returns-in-Stuck t c = let a = c.args in

@@ -38,7 +38,7 @@ is_done-requires t c = tt
 
 pub returns-then-not-is_done : goal.returns-then-not-is_done
 returns-then-not-is_done t c = let a = c.args in
-    one-walks-stop a.sort a.d c.requires.1.2 c.requires.1.1 (viewed-at a.sort a.f.now a.p c.requires.1.1 _ _ c.step.ensures c.in-One.is) c.bounded_at-a.ensures (sym c.is_done.ensures ∙ not-true _ c.if-not-is_done.true)
+    one-walks-stop a.sort a.d c.requires.1.2 c.requires.1.1 (viewed-at a.sort a.f.now a.p c.requires.1.1 _ _ c.step.ensures c.in-One.is) c.bounded_at-a.ensures (sym c.is_done.ensures ∙ c.if-not-is_done.true)
 
 pub step_of-requires : goal.step_of-requires
 step_of-requires t c = tt
@@ -46,7 +46,7 @@ step_of-requires t c = tt
 pub bounded_end-requires-in-One : goal.bounded_end-requires-in-One
 bounded_end-requires-in-One t c = let a = c.args in
     let v = viewed-at a.sort a.f.now a.p c.requires.1.1 _ _ c.step.ensures c.in-One.is in
-    (runs-led c.bounded_at-a.ensures.runs, at-spans c.requires.1.1 (c.bounded_at-a.ensures.moved (sym c.is_done.ensures ∙ not-false _ c.if-not-is_done.false) ∙ v.end), c.requires.1.2)
+    (runs-led c.bounded_at-a.ensures.runs, at-spans c.requires.1.1 (c.bounded_at-a.ensures.moved (sym c.is_done.ensures ∙ c.if-not-is_done.false) ∙ v.end), c.requires.1.2)
 
 pub bounded_at-a-requires-in-Two : goal.bounded_at-a-requires-in-Two
 bounded_at-a-requires-in-Two t c = let a = c.args in
@@ -58,12 +58,12 @@ is_done-requires-in-Two t c = tt
 
 pub returns-then-not-is_done-2 : goal.returns-then-not-is_done-2
 returns-then-not-is_done-2 t c = let a = c.args in
-    two-walks-stop a.sort a.d c.requires.1.2 c.requires.1.1 (viewed-at a.sort a.f.now a.p c.requires.1.1 _ _ c.step.ensures c.in-Two.is) c.bounded_at-a-in-Two.ensures (sym c.is_done-in-Two.ensures ∙ not-true _ c.if-not-is_done-2.true)
+    two-walks-stop a.sort a.d c.requires.1.2 c.requires.1.1 (viewed-at a.sort a.f.now a.p c.requires.1.1 _ _ c.step.ensures c.in-Two.is) c.bounded_at-a-in-Two.ensures (sym c.is_done-in-Two.ensures ∙ c.if-not-is_done-2.true)
 
 pub bounded_at-b-requires : goal.bounded_at-b-requires
 bounded_at-b-requires t c = let a = c.args in
     let v = viewed-at a.sort a.f.now a.p c.requires.1.1 _ _ c.step.ensures c.in-Two.is in
-    let m = c.bounded_at-a-in-Two.ensures.moved (sym c.is_done-in-Two.ensures ∙ not-false _ c.if-not-is_done-2.false) in
+    let m = c.bounded_at-a-in-Two.ensures.moved (sym c.is_done-in-Two.ensures ∙ c.if-not-is_done-2.false) in
     (less-right c.requires.1.1 v m c.requires.0, (runs-led c.bounded_at-a-in-Two.ensures.runs, right-at v m, c.requires.1.2))
 
 pub is_done-requires-in-Two-2 : goal.is_done-requires-in-Two-2
@@ -71,7 +71,7 @@ is_done-requires-in-Two-2 t c = tt
 
 pub returns-then-not-is_done-3 : goal.returns-then-not-is_done-3
 returns-then-not-is_done-3 t c = let a = c.args in
-    two-walks-stop-right a.sort a.d c.requires.1.2 c.requires.1.1 (viewed-at a.sort a.f.now a.p c.requires.1.1 _ _ c.step.ensures c.in-Two.is) c.bounded_at-a-in-Two.ensures (sym c.is_done-in-Two.ensures ∙ not-false _ c.if-not-is_done-2.false) c.bounded_at-b.ensures (sym c.is_done-in-Two-2.ensures ∙ not-true _ c.if-not-is_done-3.true)
+    two-walks-stop-right a.sort a.d c.requires.1.2 c.requires.1.1 (viewed-at a.sort a.f.now a.p c.requires.1.1 _ _ c.step.ensures c.in-Two.is) c.bounded_at-a-in-Two.ensures (sym c.is_done-in-Two.ensures ∙ c.if-not-is_done-2.false) c.bounded_at-b.ensures (sym c.is_done-in-Two-2.ensures ∙ c.if-not-is_done-3.true)
 
 pub step_of-i-requires : goal.step_of-i-requires
 step_of-i-requires t c = tt
@@ -82,8 +82,8 @@ step_of-k-requires t c = tt
 pub bounded_end-requires-in-Two : goal.bounded_end-requires-in-Two
 bounded_end-requires-in-Two t c = let a = c.args in
     let v = viewed-at a.sort a.f.now a.p c.requires.1.1 _ _ c.step.ensures c.in-Two.is in
-    let m = c.bounded_at-a-in-Two.ensures.moved (sym c.is_done-in-Two.ensures ∙ not-false _ c.if-not-is_done-2.false) in
-    let n = c.bounded_at-b.ensures.moved (sym c.is_done-in-Two-2.ensures ∙ not-false _ c.if-not-is_done-3.false) in
+    let m = c.bounded_at-a-in-Two.ensures.moved (sym c.is_done-in-Two.ensures ∙ c.if-not-is_done-2.false) in
+    let n = c.bounded_at-b.ensures.moved (sym c.is_done-in-Two-2.ensures ∙ c.if-not-is_done-3.false) in
     (runs-led c.bounded_at-b.ensures.runs, at-spans c.requires.1.1 (two-end v m n), c.requires.1.2)
 
 pub returns-in-Leaf : goal.returns-in-Leaf
@@ -96,14 +96,14 @@ returns-in-Lit t c = let a = c.args in
 
 pub returns-else-not-is_done : goal.returns-else-not-is_done
 returns-else-not-is_done t c = let a = c.args in
-    one-walks a.sort a.d c.requires.1.2 c.requires.1.1 (viewed-at a.sort a.f.now a.p c.requires.1.1 _ _ c.step.ensures c.in-One.is) c.bounded_at-a.ensures (sym c.is_done.ensures ∙ not-false _ c.if-not-is_done.false) c.step_of.ensures c.bounded_end-in-One.ensures
+    one-walks a.sort a.d c.requires.1.2 c.requires.1.1 (viewed-at a.sort a.f.now a.p c.requires.1.1 _ _ c.step.ensures c.in-One.is) c.bounded_at-a.ensures (sym c.is_done.ensures ∙ c.if-not-is_done.false) c.step_of.ensures c.bounded_end-in-One.ensures
 
 pub shape_of-l-else-not-is_done-3 : goal.shape_of-l-else-not-is_done-3
 shape_of-l-else-not-is_done-3 t c = c.bounded_end-in-Two.auto.l ∙ c.bounded_at-b.auto.l ∙ c.bounded_at-a-in-Two.auto.l
 
 pub returns-else-not-is_done-3 : goal.returns-else-not-is_done-3
 returns-else-not-is_done-3 t c = let a = c.args in
-    two-walks a.sort a.d c.requires.1.2 c.requires.1.1 (viewed-at a.sort a.f.now a.p c.requires.1.1 _ _ c.step.ensures c.in-Two.is) c.bounded_at-a-in-Two.ensures (sym c.is_done-in-Two.ensures ∙ not-false _ c.if-not-is_done-2.false) c.bounded_at-b.ensures (sym c.is_done-in-Two-2.ensures ∙ not-false _ c.if-not-is_done-3.false) c.step_of-i.ensures c.step_of-k.ensures c.bounded_end-in-Two.ensures
+    two-walks a.sort a.d c.requires.1.2 c.requires.1.1 (viewed-at a.sort a.f.now a.p c.requires.1.1 _ _ c.step.ensures c.in-Two.is) c.bounded_at-a-in-Two.ensures (sym c.is_done-in-Two.ensures ∙ c.if-not-is_done-2.false) c.bounded_at-b.ensures (sym c.is_done-in-Two-2.ensures ∙ c.if-not-is_done-3.false) c.step_of-i.ensures c.step_of-k.ensures c.bounded_end-in-Two.ensures
 
 pub returns-in-Stuck : goal.returns-in-Stuck
 returns-in-Stuck t c = let a = c.args in

@@ -60,12 +60,12 @@ is_done-requires t c = tt
 pub returns-then-not-is_done : goal.returns-then-not-is_done
 returns-then-not-is_done t c = let a = c.args in
     let v = viewed-at Faces a.f.now a.p c.requires.1.1 _ _ c.step.ensures c.in-Two.is in
-    two-both-stop (beside a.k c.requires.1.1 c.requires.1.3 c.requires.1.2) v c.forall_at-a.ensures (sym c.is_done.ensures ∙ not-true _ c.if-not-is_done.true)
+    two-both-stop (beside a.k c.requires.1.1 c.requires.1.3 c.requires.1.2) v c.forall_at-a.ensures (sym c.is_done.ensures ∙ c.if-not-is_done.true)
 
 pub forall_at-b-requires : goal.forall_at-b-requires
 forall_at-b-requires t c = let a = c.args in
     let v = viewed-at Faces a.f.now a.p c.requires.1.1 _ _ c.step.ensures c.in-Two.is in
-    let m = c.forall_at-a.ensures.moved (sym c.is_done.ensures ∙ not-false _ c.if-not-is_done.false) in
+    let m = c.forall_at-a.ensures.moved (sym c.is_done.ensures ∙ c.if-not-is_done.false) in
     (less-right c.requires.1.1 v m.0 c.requires.0, (runs-led c.forall_at-a.ensures.runs, right-at v m.0, c.requires.1.2, right-image (image-two Faces Faces (forall_of a.k) (forall-two a.k) v m.0 c.requires.1.3) c.inside.ensures m.1))
 
 pub is_done-requires-in-Two : goal.is_done-requires-in-Two
@@ -74,9 +74,9 @@ is_done-requires-in-Two t c = tt
 pub returns-then-not-is_done-2 : goal.returns-then-not-is_done-2
 returns-then-not-is_done-2 t c = let a = c.args in
     let v = viewed-at Faces a.f.now a.p c.requires.1.1 _ _ c.step.ensures c.in-Two.is in
-    let d = sym c.is_done.ensures ∙ not-false _ c.if-not-is_done.false in
+    let d = sym c.is_done.ensures ∙ c.if-not-is_done.false in
     let m = c.forall_at-a.ensures.moved d in
-    two-both-stop-right (beside a.k c.requires.1.1 c.requires.1.3 c.requires.1.2) v c.forall_at-a.ensures d c.forall_at-b.ensures (image-end (image-two Faces Faces (forall_of a.k) (forall-two a.k) v m.0 c.requires.1.3) c.inside.ensures m.1) (sym c.is_done-in-Two.ensures ∙ not-true _ c.if-not-is_done-2.true)
+    two-both-stop-right (beside a.k c.requires.1.1 c.requires.1.3 c.requires.1.2) v c.forall_at-a.ensures d c.forall_at-b.ensures (image-end (image-two Faces Faces (forall_of a.k) (forall-two a.k) v m.0 c.requires.1.3) c.inside.ensures m.1) (sym c.is_done-in-Two.ensures ∙ c.if-not-is_done-2.true)
 
 pub step_of-i-requires : goal.step_of-i-requires
 step_of-i-requires t c = tt
@@ -87,8 +87,8 @@ step_of-j-requires t c = tt
 pub forall_end-requires-in-Two : goal.forall_end-requires-in-Two
 forall_end-requires-in-Two t c = let a = c.args in
     let v = viewed-at Faces a.f.now a.p c.requires.1.1 _ _ c.step.ensures c.in-Two.is in
-    let m = c.forall_at-a.ensures.moved (sym c.is_done.ensures ∙ not-false _ c.if-not-is_done.false) in
-    let n = c.forall_at-b.ensures.moved (sym c.is_done-in-Two.ensures ∙ not-false _ c.if-not-is_done-2.false) in
+    let m = c.forall_at-a.ensures.moved (sym c.is_done.ensures ∙ c.if-not-is_done.false) in
+    let n = c.forall_at-b.ensures.moved (sym c.is_done-in-Two.ensures ∙ c.if-not-is_done-2.false) in
     (runs-led c.forall_at-b.ensures.runs, at-spans c.requires.1.1 (two-end v m.0 n.0), c.requires.1.2, at-spans c.requires.1.3 (n.1 ∙ image-end (image-two Faces Faces (forall_of a.k) (forall-two a.k) v m.0 c.requires.1.3) c.inside.ensures m.1))
 
 pub nowhere-requires-in-Stuck : goal.nowhere-requires-in-Stuck
@@ -118,9 +118,9 @@ shape_of-ix-else-not-is_done-2 t c = c.forall_end-in-Two.auto.ix ∙ c.forall_at
 pub returns-else-not-is_done-2 : goal.returns-else-not-is_done-2
 returns-else-not-is_done-2 t c = let a = c.args in
     let v = viewed-at Faces a.f.now a.p c.requires.1.1 _ _ c.step.ensures c.in-Two.is in
-    let d = sym c.is_done.ensures ∙ not-false _ c.if-not-is_done.false in
+    let d = sym c.is_done.ensures ∙ c.if-not-is_done.false in
     let m = c.forall_at-a.ensures.moved d in
-    two-both (beside a.k c.requires.1.1 c.requires.1.3 c.requires.1.2) v c.forall_at-a.ensures d c.forall_at-b.ensures (image-end (image-two Faces Faces (forall_of a.k) (forall-two a.k) v m.0 c.requires.1.3) c.inside.ensures m.1) (sym c.is_done-in-Two.ensures ∙ not-false _ c.if-not-is_done-2.false) c.step_of-i.ensures c.step_of-j.ensures c.forall_end-in-Two.ensures
+    two-both (beside a.k c.requires.1.1 c.requires.1.3 c.requires.1.2) v c.forall_at-a.ensures d c.forall_at-b.ensures (image-end (image-two Faces Faces (forall_of a.k) (forall-two a.k) v m.0 c.requires.1.3) c.inside.ensures m.1) (sym c.is_done-in-Two.ensures ∙ c.if-not-is_done-2.false) c.step_of-i.ensures c.step_of-j.ensures c.forall_end-in-Two.ensures
 
 pub returns-in-Stuck : goal.returns-in-Stuck
 returns-in-Stuck t c = let a = c.args in

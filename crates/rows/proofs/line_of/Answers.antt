@@ -1,4 +1,4 @@
-use mathlib.Core.Path.{sym, ap}
+use Rattle.std.proofs.Common.{◌≡◌, sym, ap, arith}
 use Rattle.calculus.proofs.Rows.{rows}
 use Rattle.kinds.proofs.TableLaws.{rest-last}
 use Rattle.rows.specs.Flattening.{flat_f, flat_i, fronts, flat_faces, row_lines, line_at}
@@ -618,4 +618,4 @@ returns-in-152 c = sym (ap line_at c.in-152.is)
 
 pub returns-in_default : goal.returns-in_default
 unfolding line_at row_lines flat_f flat_i fronts flat_faces rows
-returns-in_default c = sym (ap line_at (rest-last 153 c.args.i c.in_default.rest!OLD c.requires))
+returns-in_default c = let e : c.args.i ≡ 153 = omega arith in sym (ap line_at e)

@@ -1,3 +1,4 @@
+use Rattle.std.proofs.Common.{◌≡◌, arith}
 use mathlib.Core.Path.{refl}
 use Rattle.calculus.proofs.Rows.{rows}
 use Rattle.kinds.proofs.TableLaws.{rest-last}
@@ -307,4 +308,4 @@ returns-in-74 c = start-row c.in-74.is refl refl
 
 pub returns-in_default : goal.returns-in_default
 unfolding row_starts items_of flat_f flat_i fronts flat_faces rows
-returns-in_default c = start-row (rest-last 75 c.args.k c.in_default.rest!OLD c.requires) refl refl
+returns-in_default c = let e : c.args.k ≡ 75 = omega arith in start-row e refl refl

@@ -31,7 +31,7 @@ pub one_byte-requires : goal.one_byte-requires
 one_byte-requires c = (c.loop-i.invariant.some, c.loop-i.invariant.placed, c.requires.0)
 
 pub returns-in_default : goal.returns-in_default
-returns-in_default c = let a = c.args in let o = c.loop-i in going-stop (row_items rows) a.start a.stop a.l.now a.preds.now a.from.now a.to.now a.n o.env o.q o.i o.invariant (omega arith) (omega (arith, table-length, c.requires.2)) c.wide-b.result (table_at c.args.table.now c.requires.3 c.wide-b.result o.i (omega (arith, c.requires.2)) c.wide-b.ensures.0) c.one_byte.new.1.0 c.one_byte.result c.in_default.is c.one_byte.ensures
+returns-in_default c = let a = c.args in let o = c.loop-i in going-stop (row_items rows) a.start a.stop a.l.now a.preds.now a.from.now a.to.now a.n o.env o.q o.i o.invariant (omega arith) (omega (arith, table-length, c.requires.2)) c.wide-b.result (table_at c.args.table.now c.requires.3 c.wide-b.result o.i (omega (arith, c.requires.2)) c.wide-b.ensures.0) c.one_byte.new.env c.one_byte.result c.in_default.is c.one_byte.ensures
 
 pub overflow_add-i-in-loop-i : goal.overflow_add-i-in-loop-i
 overflow_add-i-in-loop-i c = omega arith
@@ -40,7 +40,7 @@ pub loop-i-smaller : goal.loop-i-smaller
 loop-i-smaller c = omega arith
 
 pub loop-i-preserved : goal.loop-i-preserved
-loop-i-preserved c = let a = c.args in let o = c.loop-i in going_on (row_items rows) a.start a.stop a.l.now a.preds.now a.from.now a.to.now a.n o.env o.q o.i o.invariant (omega arith) (omega (arith, table-length, c.requires.2)) c.wide-b.result (table_at c.args.table.now c.requires.3 c.wide-b.result o.i (omega (arith, c.requires.2)) c.wide-b.ensures.0) c.one_byte.new.1.0 c.one_byte.result _ c.in-To.is c.one_byte.ensures
+loop-i-preserved c = let a = c.args in let o = c.loop-i in going_on (row_items rows) a.start a.stop a.l.now a.preds.now a.from.now a.to.now a.n o.env o.q o.i o.invariant (omega arith) (omega (arith, table-length, c.requires.2)) c.wide-b.result (table_at c.args.table.now c.requires.3 c.wide-b.result o.i (omega (arith, c.requires.2)) c.wide-b.ensures.0) c.one_byte.new.env c.one_byte.result _ c.in-To.is c.one_byte.ensures
 
 pub returns-then-at-end : goal.returns-then-at-end
 returns-then-at-end c = let a = c.args in let o = c.loop-i in going_more (row_items rows) a.start a.stop a.l.now a.preds.now a.from.now a.to.now a.n o.env o.q o.i o.invariant (omega arith) c.if-at-end.true

@@ -14,7 +14,7 @@ pub one_token-requires : goal.one_token-requires
 one_token-requires c = let h = c.requires in (h.1.ordered, h.1.within, h.0)
 
 pub returns-in-Move : goal.returns-in-Move
-returns-in-Move c = let a = c.args in byte-move a.l.now a.preds.now a.from.now a.to.now a.n a.q c.requires.1 a.b a.env.now c.one_token.new.1.0 (omega (arith, c.if-b-ge96.false)) c.one_token.result _ _ c.in-Move.is c.one_token.ensures
+returns-in-Move c = let a = c.args in byte-move a.l.now a.preds.now a.from.now a.to.now a.n a.q c.requires.1 a.b a.env.now c.one_token.new.env (omega (arith, c.if-b-ge96.false)) c.one_token.result _ _ c.in-Move.is c.one_token.ensures
 
 pub returns-in-Stop : goal.returns-in-Stop
-returns-in-Stop c = let a = c.args in byte-stop a.l.now a.preds.now a.from.now a.to.now a.n a.q c.requires.1 a.b a.env.now c.one_token.new.1.0 (omega (arith, c.if-b-ge96.false)) c.one_token.result c.in-Stop.is c.one_token.ensures
+returns-in-Stop c = let a = c.args in byte-stop a.l.now a.preds.now a.from.now a.to.now a.n a.q c.requires.1 a.b a.env.now c.one_token.new.env (omega (arith, c.if-b-ge96.false)) c.one_token.result c.in-Stop.is c.one_token.ensures

@@ -42,7 +42,7 @@ is_done-requires t c = tt
 pub returns-then-not-is_done : goal.returns-then-not-is_done
 returns-then-not-is_done t c = let a = c.args in
     let v = viewed-at a.sort a.f.now a.p c.requires.1.1 _ _ c.step.ensures c.in-One.is in
-    one-both-stop (result-beside a.sort a.op a.t.now c.requires.1.2 c.requires.1.1 c.requires.1.3) v c.transform_at-a.ensures (below_end (image-one a.sort a.sort (transform_of a.sort (op_of a.op a.t.now)) (transform-one a.sort (op_of a.op a.t.now)) v c.requires.1.3) c.below.ensures) (sym c.is_done.ensures ∙ not-true _ c.if-not-is_done.true)
+    one-both-stop (result-beside a.sort a.op a.t.now c.requires.1.2 c.requires.1.1 c.requires.1.3) v c.transform_at-a.ensures (below_end (image-one a.sort a.sort (transform_of a.sort (op_of a.op a.t.now)) (transform-one a.sort (op_of a.op a.t.now)) v c.requires.1.3) c.below.ensures) (sym c.is_done.ensures ∙ c.if-not-is_done.true)
 
 pub step_of-i-requires : goal.step_of-i-requires
 step_of-i-requires t c = tt
@@ -50,7 +50,7 @@ step_of-i-requires t c = tt
 pub transform_end-requires-in-One : goal.transform_end-requires-in-One
 transform_end-requires-in-One t c = let a = c.args in
     let v = viewed-at a.sort a.f.now a.p c.requires.1.1 _ _ c.step.ensures c.in-One.is in
-    let m = c.transform_at-a.ensures.moved (sym c.is_done.ensures ∙ not-false _ c.if-not-is_done.false) in
+    let m = c.transform_at-a.ensures.moved (sym c.is_done.ensures ∙ c.if-not-is_done.false) in
     (runs-led c.transform_at-a.ensures.runs, at-spans c.requires.1.1 (m.0 ∙ v.end), c.requires.1.2, at-spans c.requires.1.3 (m.1 ∙ below_end (image-one a.sort a.sort (transform_of a.sort (op_of a.op a.t.now)) (transform-one a.sort (op_of a.op a.t.now)) v c.requires.1.3) c.below.ensures))
 
 pub inside-requires : goal.inside-requires
@@ -67,12 +67,12 @@ is_done-requires-in-Two t c = tt
 pub returns-then-not-is_done-2 : goal.returns-then-not-is_done-2
 returns-then-not-is_done-2 t c = let a = c.args in
     let v = viewed-at a.sort a.f.now a.p c.requires.1.1 _ _ c.step.ensures c.in-Two.is in
-    two-both-stop (result-beside a.sort a.op a.t.now c.requires.1.2 c.requires.1.1 c.requires.1.3) v c.transform_at-a-in-Two.ensures (sym c.is_done-in-Two.ensures ∙ not-true _ c.if-not-is_done-2.true)
+    two-both-stop (result-beside a.sort a.op a.t.now c.requires.1.2 c.requires.1.1 c.requires.1.3) v c.transform_at-a-in-Two.ensures (sym c.is_done-in-Two.ensures ∙ c.if-not-is_done-2.true)
 
 pub transform_at-b-requires : goal.transform_at-b-requires
 transform_at-b-requires t c = let a = c.args in
     let v = viewed-at a.sort a.f.now a.p c.requires.1.1 _ _ c.step.ensures c.in-Two.is in
-    let m = c.transform_at-a-in-Two.ensures.moved (sym c.is_done-in-Two.ensures ∙ not-false _ c.if-not-is_done-2.false) in
+    let m = c.transform_at-a-in-Two.ensures.moved (sym c.is_done-in-Two.ensures ∙ c.if-not-is_done-2.false) in
     (less-right c.requires.1.1 v m.0 c.requires.0, (runs-led c.transform_at-a-in-Two.ensures.runs, right-at v m.0, c.requires.1.2, right-image (image-two a.sort a.sort (transform_of a.sort (op_of a.op a.t.now)) (transform-two a.sort (op_of a.op a.t.now)) v m.0 c.requires.1.3) c.inside.ensures m.1))
 
 pub is_done-requires-in-Two-2 : goal.is_done-requires-in-Two-2
@@ -81,9 +81,9 @@ is_done-requires-in-Two-2 t c = tt
 pub returns-then-not-is_done-3 : goal.returns-then-not-is_done-3
 returns-then-not-is_done-3 t c = let a = c.args in
     let v = viewed-at a.sort a.f.now a.p c.requires.1.1 _ _ c.step.ensures c.in-Two.is in
-    let d = sym c.is_done-in-Two.ensures ∙ not-false _ c.if-not-is_done-2.false in
+    let d = sym c.is_done-in-Two.ensures ∙ c.if-not-is_done-2.false in
     let m = c.transform_at-a-in-Two.ensures.moved d in
-    two-both-stop-right (result-beside a.sort a.op a.t.now c.requires.1.2 c.requires.1.1 c.requires.1.3) v c.transform_at-a-in-Two.ensures d c.transform_at-b.ensures (image-end (image-two a.sort a.sort (transform_of a.sort (op_of a.op a.t.now)) (transform-two a.sort (op_of a.op a.t.now)) v m.0 c.requires.1.3) c.inside.ensures m.1) (sym c.is_done-in-Two-2.ensures ∙ not-true _ c.if-not-is_done-3.true)
+    two-both-stop-right (result-beside a.sort a.op a.t.now c.requires.1.2 c.requires.1.1 c.requires.1.3) v c.transform_at-a-in-Two.ensures d c.transform_at-b.ensures (image-end (image-two a.sort a.sort (transform_of a.sort (op_of a.op a.t.now)) (transform-two a.sort (op_of a.op a.t.now)) v m.0 c.requires.1.3) c.inside.ensures m.1) (sym c.is_done-in-Two-2.ensures ∙ c.if-not-is_done-3.true)
 
 pub step_of-i-requires-in-Two : goal.step_of-i-requires-in-Two
 step_of-i-requires-in-Two t c = tt
@@ -94,8 +94,8 @@ step_of-j-requires t c = tt
 pub transform_end-requires-in-Two : goal.transform_end-requires-in-Two
 transform_end-requires-in-Two t c = let a = c.args in
     let v = viewed-at a.sort a.f.now a.p c.requires.1.1 _ _ c.step.ensures c.in-Two.is in
-    let m = c.transform_at-a-in-Two.ensures.moved (sym c.is_done-in-Two.ensures ∙ not-false _ c.if-not-is_done-2.false) in
-    let n = c.transform_at-b.ensures.moved (sym c.is_done-in-Two-2.ensures ∙ not-false _ c.if-not-is_done-3.false) in
+    let m = c.transform_at-a-in-Two.ensures.moved (sym c.is_done-in-Two.ensures ∙ c.if-not-is_done-2.false) in
+    let n = c.transform_at-b.ensures.moved (sym c.is_done-in-Two-2.ensures ∙ c.if-not-is_done-3.false) in
     (runs-led c.transform_at-b.ensures.runs, at-spans c.requires.1.1 (two-end v m.0 n.0), c.requires.1.2, at-spans c.requires.1.3 (n.1 ∙ image-end (image-two a.sort a.sort (transform_of a.sort (op_of a.op a.t.now)) (transform-two a.sort (op_of a.op a.t.now)) v m.0 c.requires.1.3) c.inside.ensures m.1))
 
 pub nowhere-requires : goal.nowhere-requires
@@ -112,7 +112,7 @@ returns-in-Lit t c = c.transform_lit.ensures
 pub returns-else-not-is_done : goal.returns-else-not-is_done
 returns-else-not-is_done t c = let a = c.args in
     let v = viewed-at a.sort a.f.now a.p c.requires.1.1 _ _ c.step.ensures c.in-One.is in
-    one-both (result-beside a.sort a.op a.t.now c.requires.1.2 c.requires.1.1 c.requires.1.3) v c.transform_at-a.ensures (below_end (image-one a.sort a.sort (transform_of a.sort (op_of a.op a.t.now)) (transform-one a.sort (op_of a.op a.t.now)) v c.requires.1.3) c.below.ensures) (sym c.is_done.ensures ∙ not-false _ c.if-not-is_done.false) c.step_of-i.ensures c.transform_end-in-One.ensures
+    one-both (result-beside a.sort a.op a.t.now c.requires.1.2 c.requires.1.1 c.requires.1.3) v c.transform_at-a.ensures (below_end (image-one a.sort a.sort (transform_of a.sort (op_of a.op a.t.now)) (transform-one a.sort (op_of a.op a.t.now)) v c.requires.1.3) c.below.ensures) (sym c.is_done.ensures ∙ c.if-not-is_done.false) c.step_of-i.ensures c.transform_end-in-One.ensures
 
 pub shape_of-l-else-not-is_done-3 : goal.shape_of-l-else-not-is_done-3
 shape_of-l-else-not-is_done-3 t c = c.transform_end-in-Two.auto.l ∙ c.transform_at-b.auto.l ∙ c.transform_at-a-in-Two.auto.l
@@ -123,9 +123,9 @@ shape_of-ix-else-not-is_done-3 t c = c.transform_end-in-Two.auto.ix ∙ c.transf
 pub returns-else-not-is_done-3 : goal.returns-else-not-is_done-3
 returns-else-not-is_done-3 t c = let a = c.args in
     let v = viewed-at a.sort a.f.now a.p c.requires.1.1 _ _ c.step.ensures c.in-Two.is in
-    let d = sym c.is_done-in-Two.ensures ∙ not-false _ c.if-not-is_done-2.false in
+    let d = sym c.is_done-in-Two.ensures ∙ c.if-not-is_done-2.false in
     let m = c.transform_at-a-in-Two.ensures.moved d in
-    two-both (result-beside a.sort a.op a.t.now c.requires.1.2 c.requires.1.1 c.requires.1.3) v c.transform_at-a-in-Two.ensures d c.transform_at-b.ensures (image-end (image-two a.sort a.sort (transform_of a.sort (op_of a.op a.t.now)) (transform-two a.sort (op_of a.op a.t.now)) v m.0 c.requires.1.3) c.inside.ensures m.1) (sym c.is_done-in-Two-2.ensures ∙ not-false _ c.if-not-is_done-3.false) c.step_of-i-in-Two.ensures c.step_of-j.ensures c.transform_end-in-Two.ensures
+    two-both (result-beside a.sort a.op a.t.now c.requires.1.2 c.requires.1.1 c.requires.1.3) v c.transform_at-a-in-Two.ensures d c.transform_at-b.ensures (image-end (image-two a.sort a.sort (transform_of a.sort (op_of a.op a.t.now)) (transform-two a.sort (op_of a.op a.t.now)) v m.0 c.requires.1.3) c.inside.ensures m.1) (sym c.is_done-in-Two-2.ensures ∙ c.if-not-is_done-3.false) c.step_of-i-in-Two.ensures c.step_of-j.ensures c.transform_end-in-Two.ensures
 
 pub returns-in-Stuck : goal.returns-in-Stuck
 returns-in-Stuck t c = let a = c.args in

@@ -27,22 +27,22 @@ pub comparison-r-requires : goal.comparison-r-requires
 comparison-r-requires c = let a = c.args in (c.requires.0, omega (arith, literal-low (tree_of Intervals a.f.now) (literal-view c.requires.1 c.requires.3) c.requires.1), omega (arith, c.requires.2.0))
 
 pub returns-then-not-is_done : goal.returns-then-not-is_done
-returns-then-not-is_done c = let a = c.args in dim-stop (subst a.k (tree_of Intervals a.t.now)) Ordering.lt (emit_comparison less a.n a.k) 58 (compare-lt a.n a.k c.if-n-k-2.true) refl (tree_of Intervals a.f.now) (literal-dim (tree_of Intervals a.f.now) (literal-view c.requires.1 c.requires.3)) c.comparison-r.ensures (sym c.is_done.ensures ∙ not-true _ c.if-not-is_done.true)
+returns-then-not-is_done c = let a = c.args in dim-stop (subst a.k (tree_of Intervals a.t.now)) Ordering.lt (emit_comparison less a.n a.k) 58 (compare-lt a.n a.k c.if-n-k-2.true) refl (tree_of Intervals a.f.now) (literal-dim (tree_of Intervals a.f.now) (literal-view c.requires.1 c.requires.3)) c.comparison-r.ensures (sym c.is_done.ensures ∙ c.if-not-is_done.true)
 
 pub transform_whole-requires-then-n-k-2 : goal.transform_whole-requires-then-n-k-2
 transform_whole-requires-then-n-k-2 c = let a = c.args in (runs-led c.comparison-r.ensures, is-long c.requires.1, is-short c.requires.1, is-short c.requires.4, c.requires.2, omega arith)
 
 pub returns-then-n-k-2 : goal.returns-then-n-k-2
-returns-then-n-k-2 c = let a = c.args in dim-runs 0 (DSubst a.k) (subst a.k (tree_of Intervals a.t.now)) Ordering.lt (emit_comparison less a.n a.k) 58 (lt a.n a.k) (compare-lt a.n a.k c.if-n-k-2.true) refl (subst-below a.k a.n (tree_of Intervals a.t.now) c.if-n-k-2.true) refl (tree_of Intervals a.f.now) (literal-dim (tree_of Intervals a.f.now) (literal-view c.requires.1 c.requires.3)) (transforms-limited a.t.now Intervals (DSubst a.k) c.requires.2 c.requires.1 c.requires.4) (transforms-bytes a.t.now Intervals (DSubst a.k) c.requires.2 c.requires.1 c.requires.4) c.comparison-r.ensures (sym c.is_done.ensures ∙ not-false _ c.if-not-is_done.false) c.step_of.ensures c.transform_whole-then-n-k-2.ensures
+returns-then-n-k-2 c = let a = c.args in dim-runs 0 (DSubst a.k) (subst a.k (tree_of Intervals a.t.now)) Ordering.lt (emit_comparison less a.n a.k) 58 (lt a.n a.k) (compare-lt a.n a.k c.if-n-k-2.true) refl (subst-below a.k a.n (tree_of Intervals a.t.now) c.if-n-k-2.true) refl (tree_of Intervals a.f.now) (literal-dim (tree_of Intervals a.f.now) (literal-view c.requires.1 c.requires.3)) (transforms-limited a.t.now Intervals (DSubst a.k) c.requires.2 c.requires.1 c.requires.4) (transforms-bytes a.t.now Intervals (DSubst a.k) c.requires.2 c.requires.1 c.requires.4) c.comparison-r.ensures (sym c.is_done.ensures ∙ c.if-not-is_done.false) c.step_of.ensures c.transform_whole-then-n-k-2.ensures
 
 pub comparison-r-requires-2 : goal.comparison-r-requires-2
 comparison-r-requires-2 c = let a = c.args in (c.requires.0, omega (arith, c.requires.2.0), omega (arith, literal-low (tree_of Intervals a.f.now) (literal-view c.requires.1 c.requires.3) c.requires.1))
 
 pub returns-then-not-is_done-2 : goal.returns-then-not-is_done-2
-returns-then-not-is_done-2 c = let a = c.args in dim-stop (subst a.k (tree_of Intervals a.t.now)) Ordering.gt (emit_comparison less a.k a.n) 60 (compare-gt a.n a.k (above a.n a.k c.if-n-k.false c.if-n-k-2.false)) refl (tree_of Intervals a.f.now) (literal-dim (tree_of Intervals a.f.now) (literal-view c.requires.1 c.requires.3)) c.comparison-r-2.ensures (sym c.is_done-2.ensures ∙ not-true _ c.if-not-is_done-2.true)
+returns-then-not-is_done-2 c = let a = c.args in dim-stop (subst a.k (tree_of Intervals a.t.now)) Ordering.gt (emit_comparison less a.k a.n) 60 (compare-gt a.n a.k (above a.n a.k c.if-n-k.false c.if-n-k-2.false)) refl (tree_of Intervals a.f.now) (literal-dim (tree_of Intervals a.f.now) (literal-view c.requires.1 c.requires.3)) c.comparison-r-2.ensures (sym c.is_done-2.ensures ∙ c.if-not-is_done-2.true)
 
 pub transform_whole-requires-2 : goal.transform_whole-requires-2
 transform_whole-requires-2 c = let a = c.args in (runs-led c.comparison-r-2.ensures, is-long c.requires.1, is-short c.requires.1, is-short c.requires.4, c.requires.2, omega arith)
 
 pub returns : goal.returns
-returns c = let a = c.args in dim-runs 2 (DSubst a.k) (subst a.k (tree_of Intervals a.t.now)) Ordering.gt (emit_comparison less a.k a.n) 60 (lt a.k a.n) (compare-gt a.n a.k (above a.n a.k c.if-n-k.false c.if-n-k-2.false)) refl (subst-above a.k a.n (tree_of Intervals a.t.now) (above a.n a.k c.if-n-k.false c.if-n-k-2.false)) refl (tree_of Intervals a.f.now) (literal-dim (tree_of Intervals a.f.now) (literal-view c.requires.1 c.requires.3)) (transforms-limited a.t.now Intervals (DSubst a.k) c.requires.2 c.requires.1 c.requires.4) (transforms-bytes a.t.now Intervals (DSubst a.k) c.requires.2 c.requires.1 c.requires.4) c.comparison-r-2.ensures (sym c.is_done-2.ensures ∙ not-false _ c.if-not-is_done-2.false) c.step_of-2.ensures c.transform_whole-2.ensures
+returns c = let a = c.args in dim-runs 2 (DSubst a.k) (subst a.k (tree_of Intervals a.t.now)) Ordering.gt (emit_comparison less a.k a.n) 60 (lt a.k a.n) (compare-gt a.n a.k (above a.n a.k c.if-n-k.false c.if-n-k-2.false)) refl (subst-above a.k a.n (tree_of Intervals a.t.now) (above a.n a.k c.if-n-k.false c.if-n-k-2.false)) refl (tree_of Intervals a.f.now) (literal-dim (tree_of Intervals a.f.now) (literal-view c.requires.1 c.requires.3)) (transforms-limited a.t.now Intervals (DSubst a.k) c.requires.2 c.requires.1 c.requires.4) (transforms-bytes a.t.now Intervals (DSubst a.k) c.requires.2 c.requires.1 c.requires.4) c.comparison-r-2.ensures (sym c.is_done-2.ensures ∙ c.if-not-is_done-2.false) c.step_of-2.ensures c.transform_whole-2.ensures

@@ -36,7 +36,7 @@ pub loop-i-smaller : goal.loop-i-smaller
 loop-i-smaller c = omega (arith, c.loop-i-test.true)
 
 pub loop-i-preserved : goal.loop-i-preserved
-loop-i-preserved c = met-turn c.requires.0 c.loop-i.invariant c.loop-i-test.true c.formula_at-x.ensures c.meet.ensures (not-false _ c.if-not-meet.false) refl refl
+loop-i-preserved c = met-turn c.requires.0 c.loop-i.invariant c.loop-i-test.true c.formula_at-x.ensures c.meet.ensures (c.if-not-meet.false) refl refl
 
 pub shape_of-seen : goal.shape_of-seen
 shape_of-seen c = c.loop-i.invariant.long ∙ sym (ap length c.requires.1 ∙ length-replicate {A = ℕ} 512 0)

@@ -17,7 +17,7 @@ pub copy-requires-2 : goal.copy-requires-2
 copy-requires-2 c = omega (arith, context-short c.requires.1, ap length c.copy.ensures, length-sets (replicate 2048 0) 0 c.count.result, length-replicate {A = ℕ} 2048 0)
 
 pub copy-requires-3 : goal.copy-requires-3
-copy-requires-3 c = omega (arith, context-short c.requires.1, is-short c.requires.2, ap length c.copy-2.ensures, ap length c.copy.ensures, length-sets c.copy.new.1.0 2 c.args.g.now, length-sets (replicate 2048 0) 0 c.count.result, length-replicate {A = ℕ} 2048 0)
+copy-requires-3 c = omega (arith, context-short c.requires.1, is-short c.requires.2, ap length c.copy-2.ensures, ap length c.copy.ensures, length-sets c.copy.new.out 2 c.args.g.now, length-sets (replicate 2048 0) 0 c.count.result, length-replicate {A = ℕ} 2048 0)
 
 pub slice_bounds-operands-end : goal.slice_bounds-operands-end
 slice_bounds-operands-end c = (cover-written c.requires.1 c.requires.2 c.count.ensures (replicate 2048 0) _ _ _ (omega (arith, length-replicate {A = ℕ} 2048 0)) c.copy.ensures c.copy-2.ensures c.copy-3.ensures).0

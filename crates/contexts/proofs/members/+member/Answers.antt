@@ -44,7 +44,7 @@ pub is_done-requires : goal.is_done-requires
 is_done-requires t c = tt
 
 pub returns-then-not-is_done : goal.returns-then-not-is_done
-returns-then-not-is_done t c = member-stop c.requires.1.1 c.requires.1.2 c.if-n-eq0.false c.formula_at-h.ensures (sym c.same.ensures ∙ c.if-same.false) c.member-r.ensures (sym c.is_done.ensures ∙ not-true _ c.if-not-is_done.true)
+returns-then-not-is_done t c = member-stop c.requires.1.1 c.requires.1.2 c.if-n-eq0.false c.formula_at-h.ensures (sym c.same.ensures ∙ c.if-same.false) c.member-r.ensures (sym c.is_done.ensures ∙ c.if-not-is_done.true)
 
 pub step_of-requires : goal.step_of-requires
 step_of-requires t c = tt
@@ -56,4 +56,4 @@ pub emit3-requires-2 : goal.emit3-requires-2
 emit3-requires-2 t c = (runs-led c.member-r.ensures, omega (arith, is-short c.requires.1.1, ap length c.count-2.ensures, context-short c.requires.1.2))
 
 pub returns : goal.returns
-returns t c = member-up c.requires.1.1 c.requires.1.2 c.if-n-eq0.false c.formula_at-h.ensures (sym c.same.ensures ∙ c.if-same.false) c.member-r.ensures (sym c.is_done.ensures ∙ not-false _ c.if-not-is_done.false) c.step_of.ensures c.count-2.ensures c.emit3-2.ensures
+returns t c = member-up c.requires.1.1 c.requires.1.2 c.if-n-eq0.false c.formula_at-h.ensures (sym c.same.ensures ∙ c.if-same.false) c.member-r.ensures (sym c.is_done.ensures ∙ c.if-not-is_done.false) c.step_of.ensures c.count-2.ensures c.emit3-2.ensures

@@ -50,7 +50,7 @@ pub is_done-requires : goal.is_done-requires
 is_done-requires t c = tt
 
 pub returns-then-not-is_done : goal.returns-then-not-is_done
-returns-then-not-is_done t c = take-stop c.requires.1.1 c.if-i-eq0.false c.formula_at-h.ensures c.take-r.ensures (sym c.is_done.ensures ∙ not-true _ c.if-not-is_done.true)
+returns-then-not-is_done t c = take-stop c.requires.1.1 c.if-i-eq0.false c.formula_at-h.ensures c.take-r.ensures (sym c.is_done.ensures ∙ c.if-not-is_done.true)
 
 pub step_of-requires : goal.step_of-requires
 step_of-requires t c = tt
@@ -68,4 +68,4 @@ pub emit-requires-2 : goal.emit-requires-2
 emit-requires-2 t c = (runs-led c.take-r.ensures, take_short c.requires.1.1 c.count-2.ensures c.count-3.ensures)
 
 pub returns : goal.returns
-returns t c = take-up c.requires.1.1 c.if-i-eq0.false c.formula_at-h.ensures c.take-r.ensures (sym c.is_done.ensures ∙ not-false _ c.if-not-is_done.false) c.step_of.ensures c.count-2.ensures c.count-3.ensures c.emit-2.ensures
+returns t c = take-up c.requires.1.1 c.if-i-eq0.false c.formula_at-h.ensures c.take-r.ensures (sym c.is_done.ensures ∙ c.if-not-is_done.false) c.step_of.ensures c.count-2.ensures c.count-3.ensures c.emit-2.ensures

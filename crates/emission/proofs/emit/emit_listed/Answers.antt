@@ -14,10 +14,10 @@ find_in-requires c = (c.requires.0, c.bucket_of-b.ensures.0 ∙ ap (λ (h : ℕ)
 
 pub returns-then-append : goal.returns-then-append
 returns-then-append c = let a = c.args in (
-  emit-new c.requires.0.led a.kind a.predicate _ (take a.n a.references) a.operands.now c.append.new.0 (sym c.in-Absent.is ∙ c.find_in.ensures) _ c.if-append.true c.append.ensures,
-  λ s f t q. indexed-step c.requires.0 a.predicate c.bucket_of-b.result c.used-at.result a.operands.now c.append.new.0 c.enter_step.new.0
+  emit-new c.requires.0.led a.kind a.predicate _ (take a.n a.references) a.operands.now c.append.new.l (sym c.in-Absent.is ∙ c.find_in.ensures) _ c.if-append.true c.append.ensures,
+  λ s f t q. indexed-step c.requires.0 a.predicate c.bucket_of-b.result c.used-at.result a.operands.now c.append.new.l c.enter_step.new.x
       (c.bucket_of-b.ensures.0 ∙ ap (λ (h : ℕ). bucket_of h a.predicate a.operands.now) c.heads.ensures) (subst (λ (h : ℕ). c.bucket_of-b.result < h) c.heads.ensures c.bucket_of-b.ensures.1) c.used-at.ensures c.enter_step.ensures
-      s f q t.judges (subst (λ (r : Bool). Appends a.l.now s r c.append.new.0) c.if-append.true (c.append.ensures s t)),
+      s f q t.judges (subst (λ (r : Bool). Appends a.l.now s r c.append.new.l) c.if-append.true (c.append.ensures s t)),
 
 )
 
@@ -27,7 +27,7 @@ returns-in-At c = let a = c.args in
 
 pub returns-else-append : goal.returns-else-append
 returns-else-append c = let a = c.args in (
-  emit-full c.requires.0.led a.kind a.predicate _ (take a.n a.references) a.operands.now c.append.new.0 (sym c.in-Absent.is ∙ c.find_in.ensures) _ c.if-append.false c.append.ensures,
-  λ s f t q. indexed-full c.requires.0 s c.append.new.0 (subst (λ (r : Bool). Appends a.l.now s r c.append.new.0) c.if-append.false (c.append.ensures s t)),
+  emit-full c.requires.0.led a.kind a.predicate _ (take a.n a.references) a.operands.now c.append.new.l (sym c.in-Absent.is ∙ c.find_in.ensures) _ c.if-append.false c.append.ensures,
+  λ s f t q. indexed-full c.requires.0 s c.append.new.l (subst (λ (r : Bool). Appends a.l.now s r c.append.new.l) c.if-append.false (c.append.ensures s t)),
 
 )

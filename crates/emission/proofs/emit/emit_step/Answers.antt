@@ -10,8 +10,8 @@ emit_listed-requires c = (c.requires, few-references c.args.kind _ _ (sym c.in-L
 
 pub returns-in-Listed : goal.returns-in-Listed
 returns-in-Listed c = let a = c.args in (
-  emit-as a.l.now c.emit_listed.new.0 a.kind _ _ a.references a.operands.now _ (sym c.in-Listed.is ∙ c.entry_of.ensures) c.emit_listed.ensures.0,
-  keeps-as a.l.now c.emit_listed.new.0 c.emit_listed.new.1.0 a.kind _ _ a.references a.operands.now (sym c.in-Listed.is ∙ c.entry_of.ensures) c.emit_listed.ensures.1,
+  emit-as a.l.now c.emit_listed.new.l a.kind _ _ a.references a.operands.now _ (sym c.in-Listed.is ∙ c.entry_of.ensures) c.emit_listed.ensures.0,
+  keeps-as a.l.now c.emit_listed.new.l c.emit_listed.new.x a.kind _ _ a.references a.operands.now (sym c.in-Listed.is ∙ c.entry_of.ensures) c.emit_listed.ensures.1,
 
 )
 

@@ -15,4 +15,4 @@ pub returns-then-groups-n : goal.returns-then-groups-n
 returns-then-groups-n c = λ e. absurd (omega (arith, c.if-groups-n.true, e.1, c.slot-n.ensures.0, c.groups.ensures))
 
 pub returns : goal.returns
-returns c = λ e. let a = c.args in subst (λ (n : ℕ). Entered (heads_of a.x.now) (places_from a.x.now) n a.x.now a.b a.at c.store.new.0) c.slot-n.ensures.0 c.store.ensures
+returns c = λ e. let a = c.args in subst (λ (n : ℕ). Entered (heads_of a.x.now) (places_from a.x.now) n a.x.now a.b a.at c.store.new.x) c.slot-n.ensures.0 c.store.ensures

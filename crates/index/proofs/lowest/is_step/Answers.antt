@@ -10,7 +10,7 @@ use Rattle.index.proofs.SameLaws.{other-predicate, same-predicate}
 use Rattle.index.proofs.lowest.is_step.Goals as goal
 
 pub returns-then-not-ends_with : goal.returns-then-not-ends_with
-returns-then-not-ends_with c = let a = c.args in sym (c.ends_with.ensures (not-true _ c.if-not-ends_with.true) a.predicate)
+returns-then-not-ends_with c = let a = c.args in sym (c.ends_with.ensures (c.if-not-ends_with.true) a.predicate)
 
 pub returns-then-predicate : goal.returns-then-predicate
 returns-then-predicate c = let a = c.args in sym (other-predicate a.predicate a.operands.now (step_at (steps_of a.l.now) a.c.step) (λ e. c.if-predicate.true (c.predicate.ensures ∙ e)))

@@ -18,7 +18,7 @@ pub used-end-requires : goal.used-end-requires
 used-end-requires c = c.requires.0
 
 pub loop-at-init : goal.loop-at-init
-loop-at-init c = build-start c.requires.0 c.heads-h.result c.args.x.now c.clear.new.0 c.heads-h.ensures c.requires.1 c.clear.ensures
+loop-at-init c = build-start c.requires.0 c.heads-h.result c.args.x.now c.clear.new.x c.heads-h.ensures c.requires.1 c.clear.ensures
 
 pub bucket_at-b-requires : goal.bucket_at-b-requires
 bucket_at-b-requires c = (walks-points c.loop-at.invariant.walks (omega (arith, c.used-end.ensures)), omega (arith, c.loop-at.invariant.heads))

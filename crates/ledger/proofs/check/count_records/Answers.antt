@@ -45,7 +45,7 @@ pub body_fits-requires : goal.body_fits-requires
 body_fits-requires c = tt
 
 pub returns-then-not-body_fits : goal.returns-then-not-body_fits
-returns-then-not-body_fits c = let a = c.args in let p = c.loop-at in sym (left-record p.i a.s.now p.at (omega arith) c.get4-n.ensures.0 (omega arith) (sym c.body_fits.ensures ∙ not-true _ c.if-not-body_fits.true)) ∙ p.invariant.0
+returns-then-not-body_fits c = let a = c.args in let p = c.loop-at in sym (left-record p.i a.s.now p.at (omega arith) c.get4-n.ensures.0 (omega arith) (sym c.body_fits.ensures ∙ c.if-not-body_fits.true)) ∙ p.invariant.0
 
 pub overflow_add-i : goal.overflow_add-i
 overflow_add-i c = omega arith
@@ -54,7 +54,7 @@ pub loop-at-smaller : goal.loop-at-smaller
 loop-at-smaller c = omega arith
 
 pub loop-at-preserved : goal.loop-at-preserved
-loop-at-preserved c = let a = c.args in let p = c.loop-at in (sym (left-record p.i a.s.now p.at (omega arith) c.get4-n.ensures.0 (omega arith) (sym c.body_fits.ensures ∙ not-false _ c.if-not-body_fits.false)) ∙ p.invariant.0, omega arith, omega arith)
+loop-at-preserved c = let a = c.args in let p = c.loop-at in (sym (left-record p.i a.s.now p.at (omega arith) c.get4-n.ensures.0 (omega arith) (sym c.body_fits.ensures ∙ c.if-not-body_fits.false)) ∙ p.invariant.0, omega arith, omega arith)
 
 pub returns : goal.returns
 returns c = let a = c.args in let p = c.loop-at in sym (left-none p.i a.s.now p.at (omega arith)) ∙ p.invariant.0

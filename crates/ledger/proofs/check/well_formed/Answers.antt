@@ -15,7 +15,7 @@ pub returns-then-l-n : goal.returns-then-l-n
 returns-then-l-n c = sym (ledger-long c.args.l.now c.if-l-lt4.false c.if-l-gt1048576.false c.get4-n.ensures.0 c.if-l-n.true)
 
 pub returns-then-not-zeros_from : goal.returns-then-not-zeros_from
-returns-then-not-zeros_from c = sym (ledger-rest c.args.l.now c.if-l-lt4.false c.if-l-gt1048576.false c.get4-n.ensures.0 (omega arith) (sym c.zeros_from.ensures ∙ not-true _ c.if-not-zeros_from.true))
+returns-then-not-zeros_from c = sym (ledger-rest c.args.l.now c.if-l-lt4.false c.if-l-gt1048576.false c.get4-n.ensures.0 (omega arith) (sym c.zeros_from.ensures ∙ c.if-not-zeros_from.true))
 
 pub returns : goal.returns
-returns c = c.count_records.ensures ∙ sym (ledger-rest c.args.l.now c.if-l-lt4.false c.if-l-gt1048576.false c.get4-n.ensures.0 (omega arith) (sym c.zeros_from.ensures ∙ not-false _ c.if-not-zeros_from.false))
+returns c = c.count_records.ensures ∙ sym (ledger-rest c.args.l.now c.if-l-lt4.false c.if-l-gt1048576.false c.get4-n.ensures.0 (omega arith) (sym c.zeros_from.ensures ∙ c.if-not-zeros_from.false))

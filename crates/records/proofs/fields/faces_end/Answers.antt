@@ -1,3 +1,4 @@
+use Rattle.records.proofs.fields.faces_end.Goals.{then-bound-z, else-bound-z}
 -- The faces that are left, behind those counted, end where the whole context does.
 use mathlib.Core.Path.{◌≡◌, sym, ap, ◌∙◌}
 use mathlib.Core.Logic.{⊎_elim}
@@ -34,7 +35,7 @@ loop-left-smaller c = omega arith
 pub loop-left-preserved : goal.loop-left-preserved
 loop-left-preserved c = let a = c.args in let l = c.loop-left in let z : Size = c.in-Formula.z in
     let f = size_fits Faces a.s.now l.e l.invariant.1 z (sym (measured_at-as _ _ _ c.measure_at.ensures) ∙ c.in-Formula.is) in
-    let m : c.if-bound-z.bound ≡ max l.bound z.bound = ⊎_elim (λ w. omega arith) (λ w. omega arith) c.if-bound-z.branch in
+    let m : c.if-bound-z.bound ≡ max l.bound z.bound = elim c.if-bound-z.branch [ then-bound-z w ↦ omega arith | else-bound-z w ↦ omega arith ] in
     (ap (λ (b : ℕ). faces_from a.s.now (l.nodes + z.nodes) b (l.e + z.len) (l.left - 1)) m ∙ sym (faces-turn a.s.now l.nodes l.bound l.e l.left l.invariant.1 c.loop-left-test.true (sym (measured_at-as _ _ _ c.measure_at.ensures) ∙ c.in-Formula.is)) ∙ l.invariant.0, omega arith, omega arith)
 
 pub returns-then-within : goal.returns-then-within

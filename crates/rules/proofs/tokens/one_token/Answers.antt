@@ -17,19 +17,19 @@ pub number_token-requires : goal.number_token-requires
 number_token-requires c = (omega (arith, c.if-b-lt32.false, c.if-b-lt40.true), c.requires.0, c.requires.1)
 
 pub returns-then-b-lt40 : goal.returns-then-b-lt40
-returns-then-b-lt40 c = let a = c.args in as_number a.b a.at a.end a.left a.l.now a.env.now c.number_token.result c.number_token.new.1.0 (omega (arith, c.if-b-lt32.false)) c.if-b-lt40.true c.number_token.ensures
+returns-then-b-lt40 c = let a = c.args in as_number a.b a.at a.end a.left a.l.now a.env.now c.number_token.result c.number_token.new.env (omega (arith, c.if-b-lt32.false)) c.if-b-lt40.true c.number_token.ensures
 
 pub number_token-requires-then-b-lt48 : goal.number_token-requires-then-b-lt48
 number_token-requires-then-b-lt48 c = (omega (arith, c.if-b-lt40.false, c.if-b-lt48.true), c.requires.0, c.requires.1)
 
 pub returns-then-b-lt48 : goal.returns-then-b-lt48
-returns-then-b-lt48 c = let a = c.args in as-above a.b a.at a.end a.left a.l.now a.env.now c.number_token-then-b-lt48.result c.number_token-then-b-lt48.new.1.0 (omega (arith, c.if-b-lt40.false)) c.if-b-lt48.true c.number_token-then-b-lt48.ensures
+returns-then-b-lt48 c = let a = c.args in as-above a.b a.at a.end a.left a.l.now a.env.now c.number_token-then-b-lt48.result c.number_token-then-b-lt48.new.env (omega (arith, c.if-b-lt40.false)) c.if-b-lt48.true c.number_token-then-b-lt48.ensures
 
 pub part_token-requires : goal.part_token-requires
 part_token-requires c = let h = c.requires in (omega (arith, c.if-b-lt48.false, c.if-b-lt72.true), h.0, h.1, h.2)
 
 pub returns-then-b-lt72 : goal.returns-then-b-lt72
-returns-then-b-lt72 c = let a = c.args in as-slot a.b a.at a.end a.left a.l.now a.env.now c.part_token.result c.part_token.new.1.0 (omega (arith, c.if-b-lt48.false)) c.if-b-lt72.true c.part_token.ensures
+returns-then-b-lt72 c = let a = c.args in as-slot a.b a.at a.end a.left a.l.now a.env.now c.part_token.result c.part_token.new.env (omega (arith, c.if-b-lt48.false)) c.if-b-lt72.true c.part_token.ensures
 
 pub count_token-requires : goal.count_token-requires
 count_token-requires c = (c.requires.0, c.requires.1)

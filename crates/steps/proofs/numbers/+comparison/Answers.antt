@@ -32,7 +32,7 @@ pub is_done-requires : goal.is_done-requires
 is_done-requires t c = tt
 
 pub returns-then-not-is_done : goal.returns-then-not-is_done
-returns-then-not-is_done t c = let a = c.args in compare-stop (order a.strict) a.m a.n c.if-m-eq0.false c.if-n-eq0.false c.comparison-r.ensures (sym c.is_done.ensures ∙ not-true _ c.if-not-is_done.true)
+returns-then-not-is_done t c = let a = c.args in compare-stop (order a.strict) a.m a.n c.if-m-eq0.false c.if-n-eq0.false c.comparison-r.ensures (sym c.is_done.ensures ∙ c.if-not-is_done.true)
 
 pub up_kind-requires : goal.up_kind-requires
 up_kind-requires t c = tt
@@ -50,4 +50,4 @@ pub emit2-requires : goal.emit2-requires
 emit2-requires t c = (runs-led c.comparison-r.ensures, omega (arith, ap length c.number.ensures, ap length c.number-2.ensures))
 
 pub returns : goal.returns
-returns t c = let a = c.args in compare-up (order a.strict) a.m a.n _ _ c.if-m-eq0.false c.if-n-eq0.false c.requires.1.1 c.requires.1.2 c.comparison-r.ensures (sym c.is_done.ensures ∙ not-false _ c.if-not-is_done.false) c.up_kind.ensures c.step_of.ensures (emits-same (ap₂ (λ (x y : List ℕ). x ++ y) c.number.ensures c.number-2.ensures) c.emit2.ensures)
+returns t c = let a = c.args in compare-up (order a.strict) a.m a.n _ _ c.if-m-eq0.false c.if-n-eq0.false c.requires.1.1 c.requires.1.2 c.comparison-r.ensures (sym c.is_done.ensures ∙ c.if-not-is_done.false) c.up_kind.ensures c.step_of.ensures (emits-same (ap₂ (λ (x y : List ℕ). x ++ y) c.number.ensures c.number-2.ensures) c.emit2.ensures)

@@ -15,9 +15,9 @@ slice_bounds-emit_step-end-2 c = let a = c.args in
 pub returns-in-Step : goal.returns-in-Step
 returns-in-Step c = let a = c.args in
     let h = five-parts a.out.now a.a.now a.b.now a.c.now a.d.now a.e.now _ _ _ _ _ c.requires.1 c.copy.ensures c.copy-2.ensures c.copy-3.ensures c.copy-4.ensures c.copy-5.ensures in
-    emits_number (book a.l.now a.ix.now) (book c.emit_step.new.0 c.emit_step.new.1.0) c.requires.0 a.kind a.references (a.a.now ++ (a.b.now ++ (a.c.now ++ (a.d.now ++ a.e.now)))) _ h c.emit_step.ensures.1 _ _ c.in-Step.is c.emit_step.ensures.0
+    emits_number (book a.l.now a.ix.now) (book c.emit_step.new.l c.emit_step.new.x) c.requires.0 a.kind a.references (a.a.now ++ (a.b.now ++ (a.c.now ++ (a.d.now ++ a.e.now)))) _ h c.emit_step.ensures.1 _ _ c.in-Step.is c.emit_step.ensures.0
 
 pub returns-in-Full : goal.returns-in-Full
 returns-in-Full c = let a = c.args in
     let h = five-parts a.out.now a.a.now a.b.now a.c.now a.d.now a.e.now _ _ _ _ _ c.requires.1 c.copy.ensures c.copy-2.ensures c.copy-3.ensures c.copy-4.ensures c.copy-5.ensures in
-    emits-full (book a.l.now a.ix.now) (book c.emit_step.new.0 c.emit_step.new.1.0) c.requires.0 a.kind a.references (a.a.now ++ (a.b.now ++ (a.c.now ++ (a.d.now ++ a.e.now)))) _ h c.emit_step.ensures.1 _ c.in-Full.is c.emit_step.ensures.0
+    emits-full (book a.l.now a.ix.now) (book c.emit_step.new.l c.emit_step.new.x) c.requires.0 a.kind a.references (a.a.now ++ (a.b.now ++ (a.c.now ++ (a.d.now ++ a.e.now)))) _ h c.emit_step.ensures.1 _ c.in-Full.is c.emit_step.ensures.0
