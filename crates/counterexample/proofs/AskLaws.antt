@@ -30,7 +30,7 @@ use Rattle.needs.specs.Places.{Stands}
 use Rattle.needs.specs.Marking.{Marks}
 use Rattle.refusals.specs.declared.Counted.{Counted}
 use Rattle.refusals.specs.declared.Counted.TheVariants.{Number, Refused}
-use Rattle.counterexample.specs.Answers.{Claim, numbered, admitted, asked, Found, before, sought, ShowsFor, Shows}
+use Rattle.counterexample.specs.Answers.{Claim, numbered, admitted, Found, before, sought, ShowsFor, Shows}
 use Rattle.counterexample.specs.Asking.{beside, Sides, Sought, Faced, questioned}
 use Rattle.counterexample.specs.Exploring.{Kept, unchanged, better, Explored, Ready, Explores}
 

@@ -7,13 +7,13 @@ use mathlib.Core.Logic.{⊎_elim}
 use mathlib.Core.Bool.{Bool, true, false, false≢true, ◌&&◌, ◌||◌, and-eq-true_iff}
 use mathlib.Core.List.{List, ◌++◌}
 use lib.Dec.{eqb}
-use lib.ListN.{length, get_or, set, drop, length-set}
+use lib.ListN.{get_or, set, drop, length-set}
 use lib.Seq.{get_or-set_other}
 use borrow.Author.Tests.{eqb-true}
 use Rattle.formula.specs.Formula.{End, lo, hi, Face, at, fand}
 use Rattle.formula.specs.Bytes.{dim_width, dim_at, encode_face}
 use Rattle.calculus.proofs.Sound.{or-iff}
-use Rattle.literals.proofs.FaceLaws.{PartsAt, kind-inside, leaf-at, literal-at, parts_at, leaf-same, parts_same}
+use Rattle.literals.proofs.FaceLaws.{PartsAt, leaf-at, parts_at, leaf-same, parts_same}
 use Rattle.needs.specs.States.{occurs, Apart}
 use Rattle.needs.specs.Places.{Ends}
 use Rattle.needs.specs.Marking.{Marks, Meets, Shares, Marked}

@@ -1,5 +1,5 @@
 -- Laws of weighing a face in a state, by the node at its place.
-use Prim.Native.Nat.{ℕ, zero, suc, ◌+◌, ◌-◌, ◌*◌, ◌≤◌, ◌<◌, min, max}
+use Prim.Native.Nat.{ℕ, zero, suc, ◌+◌, ◌-◌, ◌≤◌, ◌<◌, min, max}
 use native.Mathlib.Omega.{arith}
 use native.Mathlib.Decide.{ℕ_discrete}
 use mathlib.Core.Path.{◌≡◌, refl, sym, ap, ap₂, ◌∙◌, subst}
@@ -14,10 +14,9 @@ use Rattle.formula.specs.Bytes.{dim_width, dim_at, encode_face, bound_face}
 use Rattle.formula.specs.Answers.{pick}
 use Rattle.assignments.specs.Assignments.{value_of, assigned}
 use Rattle.calculus.proofs.Sound.{or-iff}
-use Rattle.clauses.specs.Normal.{numbered}
-use Rattle.literals.proofs.FaceLaws.{PartsAt, kind-inside, leaf-at, literal-at, parts_at, parts_same}
+use Rattle.literals.proofs.FaceLaws.{PartsAt, leaf-at, parts_at, parts_same}
 use Rattle.needs.specs.declared.Weight.{Weight}
-use Rattle.needs.specs.Places.{Stands, Ends}
+use Rattle.needs.specs.Places.{Ends}
 use Rattle.needs.specs.States.{Open, any, last, Fits, chosen, undetermined, free, Within, settle, settled, occurs, Apart, bit, hits}
 use Rattle.needs.specs.Weighing.{Asks, never, Weighs, Weighed, cost, leads, needed, conjoined, left_over, lighter, constant}
 use Rattle.needs.specs.Marking.{Marks}

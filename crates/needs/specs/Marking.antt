@@ -1,5 +1,5 @@
 -- The marks of the fands whose parts share no literal.
-use Rattle.std.specs.Prelude.{ℕ, ◌+◌, ◌≡◌, Bool, false, List, ◌++◌, length, get_or, drop}
+use Rattle.std.specs.Prelude.{ℕ, ◌≡◌, Bool, false, List, ◌++◌, length, get_or, drop}
 use Rattle.formula.specs.Formula.{Face, fand}
 use Rattle.formula.specs.Bytes.{encode_face}
 use Rattle.needs.specs.Places.{Ends}

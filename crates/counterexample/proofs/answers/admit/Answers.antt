@@ -1,4 +1,3 @@
-use borrow.Author.Rules.{rules}
 use Rattle.counterexample.proofs.AskLaws.{large-faced, short-faced, beyond-faced, admits, admitted-faced}
 use Rattle.counterexample.proofs.answers.admit.Goals as goal
 

@@ -1,4 +1,3 @@
-use borrow.Author.Rules.{rules}
 use Rattle.counterexample.proofs.AskLaws.{beside-kept, beside-refused}
 use Rattle.counterexample.proofs.answers.beside.Goals as goal
 

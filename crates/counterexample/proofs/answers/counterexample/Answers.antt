@@ -1,4 +1,3 @@
-use borrow.Author.Rules.{rules}
 use Rattle.counterexample.proofs.AskLaws.{first-refused, second-refused, both-sides, both-show}
 use Rattle.counterexample.proofs.answers.counterexample.Goals as goal
 

@@ -1,11 +1,10 @@
-use borrow.Author.Rules.{rules}
 use mathlib.Core.Path.{refl, sym}
 use lib.Seq.{length-take-le}
 use Rattle.counterexample.proofs.AskLaws.{stands-front, blank, start-long, start-ready, none_found, least-found}
 use Rattle.counterexample.proofs.answers.search.Goals as goal
 
 pub mark-requires : goal.mark-requires
-mark-requires c = ((stands-front c.args.a.now c.requires.claim.left c.requires.left, blank c.args.a.now 1024), c.requires.short)
+mark-requires c = record { stands = (stands-front c.args.a.now c.requires.claim.left c.requires.left, blank c.args.a.now 1024); f_in_bounds = c.requires.short }
 
 pub slice_bounds-explore-end-3 : goal.slice_bounds-explore-end-3
 slice_bounds-explore-end-3 c = sym (start-long c.args.d c.requires.few)

@@ -1,8 +1,7 @@
-use borrow.Author.Rules.{rules}
-use Prim.Native.Nat.{◌≤◌, ◌-◌, ◌+◌}
+use Prim.Native.Nat.{◌+◌}
 use native.Mathlib.Omega.{arith}
-use mathlib.Core.Path.{◌≡◌, refl, sym, ap, ◌∙◌}
-use lib.ListN.{length, drop}
+use mathlib.Core.Path.{refl, sym, ap, ◌∙◌}
+use lib.ListN.{drop}
 use Rattle.counterexample.specs.Exploring.{precedes}
 use Rattle.counterexample.proofs.LoopLaws.{precedes-lower, precedes-higher, precedes-equal, precedes-ends}
 use Rattle.counterexample.proofs.states.before.Goals as goal

@@ -1,10 +1,7 @@
-use borrow.Author.Rules.{rules}
-use Prim.Native.Nat.{◌≤◌, ◌-◌, ◌+◌}
-use native.Mathlib.Omega.{arith}
-use mathlib.Core.Path.{◌≡◌, refl, sym, ap, ◌∙◌}
+use Prim.Native.Nat.{◌≤◌, ◌-◌}
+use mathlib.Core.Path.{◌≡◌}
 use lib.ListN.{length, drop}
 use Rattle.counterexample.specs.Exploring.{precedes}
-use Rattle.counterexample.proofs.LoopLaws.{precedes-lower, precedes-higher, precedes-equal, precedes-ends}
 use Rattle.counterexample.proofs.states.before.Given as goal
 
 abbrev pub invariant-loop-i : goal.invariant-loop-i

@@ -1,12 +1,8 @@
-use borrow.Author.Rules.{rules}
-use Prim.Native.Nat.{ℕ, ◌≤◌, ◌-◌}
-use native.Mathlib.Omega.{arith}
-use mathlib.Core.Path.{◌≡◌, refl, ap, ap₂, ◌∙◌}
-use mathlib.Core.List.{List}
-use lib.ListN.{length, take, set}
-use lib.Seq.{sets, length-sets}
+use Prim.Native.Nat.{◌≤◌, ◌-◌}
+use mathlib.Core.Path.{◌≡◌}
+use lib.ListN.{length, take}
+use lib.Seq.{sets}
 use Rattle.needs.specs.States.{settled}
-use Rattle.counterexample.proofs.LoopLaws.{settle-more, settle-ends}
 use Rattle.counterexample.proofs.states.settle.Given as goal
 
 abbrev pub invariant-loop-i : goal.invariant-loop-i

@@ -1,35 +1,33 @@
 use borrow.Author.Rules.{rules}
-use Prim.Native.Nat.{ℕ, ◌<◌, ◌-◌}
 use native.Mathlib.Omega.{arith}
-use lib.ListN.{length}
 use Rattle.needs.proofs.PlaceLaws.{stands-inside, literal-inside, leaf-ends, literal-ends, first-stands, second-behind, second-stands}
 use Rattle.needs.proofs.MarkLaws.{parts-marked, node-marked}
 use mathlib.Core.Path.{refl, ◌∙◌}
 use Rattle.needs.proofs.marks.+mark.Goals as goal
 
 pub bounds-f-at : goal.bounds-f-at
-bounds-f-at t c = stands-inside c.requires.1.0.0
+bounds-f-at t c = stands-inside c.requires.stands.0
 
 pub overflow_add-next : goal.overflow_add-next
-overflow_add-next t c = omega (arith, stands-inside c.requires.1.0.0)
+overflow_add-next t c = omega (arith, stands-inside c.requires.stands.0)
 
 pub returns-then-kind-lt2 : goal.returns-then-kind-lt2
-returns-then-kind-lt2 t c = record { ends = leaf-ends c.args.f.now c.args.at c.if-kind-lt2.true; right = c.requires.1.0.1; long = refl }
+returns-then-kind-lt2 t c = record { ends = leaf-ends c.args.f.now c.args.at c.if-kind-lt2.true; right = c.requires.stands.1; long = refl }
 
 pub overflow_add-result : goal.overflow_add-result
-overflow_add-result t c = omega (arith, literal-inside c.requires.1.0.0 c.if-kind-lt2.false c.if-kind-lt4.true)
+overflow_add-result t c = omega (arith, literal-inside c.requires.stands.0 c.if-kind-lt2.false c.if-kind-lt4.true)
 
 pub returns-then-kind-lt4 : goal.returns-then-kind-lt4
-returns-then-kind-lt4 t c = record { ends = literal-ends c.args.f.now c.args.at c.if-kind-lt2.false c.if-kind-lt4.true; right = c.requires.1.0.1; long = refl }
+returns-then-kind-lt4 t c = record { ends = literal-ends c.args.f.now c.args.at c.if-kind-lt2.false c.if-kind-lt4.true; right = c.requires.stands.1; long = refl }
 
 pub mark-middle-requires : goal.mark-middle-requires
-mark-middle-requires t c = (omega (arith, c.requires.0, stands-inside c.requires.1.0.0), ((first-stands c.requires.1.0.0 c.if-kind-lt4.false, c.requires.1.0.1), c.requires.1.1))
+mark-middle-requires t c = (omega (arith, c.decreases, stands-inside c.requires.stands.0), ((first-stands c.requires.stands.0 c.if-kind-lt4.false, c.requires.stands.1), c.requires.f_in_bounds))
 
 pub mark-end-requires : goal.mark-end-requires
-mark-end-requires t c = (omega (arith, c.requires.0, stands-inside c.requires.1.0.0, second-behind c.requires.1.0.0 c.if-kind-lt4.false c.mark-middle.ensures.ends), ((second-stands c.requires.1.0.0 c.if-kind-lt4.false c.mark-middle.ensures.ends, c.mark-middle.ensures.right), omega (arith, c.requires.1.1, c.mark-middle.ensures.long)))
+mark-end-requires t c = (omega (arith, c.decreases, stands-inside c.requires.stands.0, second-behind c.requires.stands.0 c.if-kind-lt4.false c.mark-middle.ensures.ends), ((second-stands c.requires.stands.0 c.if-kind-lt4.false c.mark-middle.ensures.ends, c.mark-middle.ensures.right), omega (arith, c.requires.f_in_bounds, c.mark-middle.ensures.long)))
 
 pub shares-common-requires : goal.shares-common-requires
-shares-common-requires t c = (first-stands c.requires.1.0.0 c.if-kind-lt4.false, second-stands c.requires.1.0.0 c.if-kind-lt4.false c.mark-middle.ensures.ends)
+shares-common-requires t c = (first-stands c.requires.stands.0 c.if-kind-lt4.false, second-stands c.requires.stands.0 c.if-kind-lt4.false c.mark-middle.ensures.ends)
 
 pub shape_of-marks-then-common : goal.shape_of-marks-then-common
 shape_of-marks-then-common t c = c.mark-end.ensures.long ∙ c.mark-middle.ensures.long
@@ -38,7 +36,7 @@ pub returns-then-common : goal.returns-then-common
 returns-then-common t c = parts-marked c.args.f.now c.args.at c.if-kind-lt4.false c.mark-middle.ensures c.mark-end.ensures
 
 pub bounds-marks-at : goal.bounds-marks-at
-bounds-marks-at t c = omega (arith, stands-inside c.requires.1.0.0, c.requires.1.1, c.mark-middle.ensures.long, c.mark-end.ensures.long)
+bounds-marks-at t c = omega (arith, stands-inside c.requires.stands.0, c.requires.f_in_bounds, c.mark-middle.ensures.long, c.mark-end.ensures.long)
 
 pub shape_of-marks : goal.shape_of-marks
 shape_of-marks t c = search (rules, c.mark-end.ensures.long ∙ c.mark-middle.ensures.long)

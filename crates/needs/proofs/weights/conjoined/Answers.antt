@@ -1,4 +1,3 @@
-use borrow.Author.Rules.{rules}
 use mathlib.Core.Path.{sym, ◌∙◌}
 use Rattle.needs.proofs.WeighLaws.{conjoined-by}
 use Rattle.needs.proofs.weights.conjoined.Goals as goal

@@ -1,4 +1,3 @@
-use borrow.Author.Rules.{rules}
 use native.Mathlib.Omega.{arith}
 use Rattle.needs.proofs.PlaceLaws.{stands-inside, literal-inside}
 use Rattle.needs.proofs.WeighLaws.{literal-dimension, literal-weighed}
@@ -6,19 +5,19 @@ use mathlib.Core.Path.{refl}
 use Rattle.needs.proofs.weights.literal.Goals as goal
 
 pub overflow_add-field : goal.overflow_add-field
-overflow_add-field c = omega (arith, stands-inside c.requires.0.stands)
+overflow_add-field c = omega (arith, stands-inside c.requires.asks.stands)
 
 pub dim_at-dim-requires : goal.dim_at-dim-requires
-dim_at-dim-requires c = literal-inside c.requires.0.stands c.requires.1.0 c.requires.1.1
+dim_at-dim-requires c = literal-inside c.requires.asks.stands c.requires.bound.0 c.requires.bound.1
 
 pub bounds-f-at : goal.bounds-f-at
-bounds-f-at c = stands-inside c.requires.0.stands
+bounds-f-at c = stands-inside c.requires.asks.stands
 
 pub bounds-state-dim : goal.bounds-state-dim
-bounds-state-dim c = omega (arith, c.dim_at-dim.ensures.0, literal-dimension c.args.f.now c.args.at c.requires.1.0 c.requires.1.1 c.requires.0)
+bounds-state-dim c = omega (arith, c.dim_at-dim.ensures.0, literal-dimension c.args.f.now c.args.at c.requires.bound.0 c.requires.bound.1 c.requires.asks)
 
 pub overflow_add-result : goal.overflow_add-result
-overflow_add-result c = omega (arith, literal-inside c.requires.0.stands c.requires.1.0 c.requires.1.1)
+overflow_add-result c = omega (arith, literal-inside c.requires.asks.stands c.requires.bound.0 c.requires.bound.1)
 
 pub returns : goal.returns
-returns c = literal-weighed c.args.f.now c.args.at c.requires.1.0 c.requires.1.1 c.args.state.now _ _ _ _ _ c.requires.0 c.cost-weight.ensures c.dim_at-dim.ensures.0 refl refl
+returns c = literal-weighed c.args.f.now c.args.at c.requires.bound.0 c.requires.bound.1 c.args.state.now _ _ _ _ _ c.requires.asks c.cost-weight.ensures c.dim_at-dim.ensures.0 refl refl
