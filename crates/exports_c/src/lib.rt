@@ -21,6 +21,8 @@ ghost use Rattle.claims.specs.Facesteps.{facesteps};
 ghost use Rattle.repeat_test.specs.Repeats.{repeat_test};
 ghost use Rattle.numbers.specs.Answers.{count_number, desk_number, repeat_number, part_number, Numbers, Reads, Exhibits, ReadsBoth, is_one};
 
+use formula::Sort;
+
 // How many steps the ledger has, or refusal 1.
 #[unsafe(no_mangle)]
 pub extern "C" fn lf_well_formed(ledger: &[u8]) -> u64
