@@ -6,10 +6,10 @@ use mathlib.Core.Path.{◌≡◌, refl, sym, ap, ap₂, ◌∙◌, subst}
 use mathlib.Core.Bool.{Bool, true, false}
 use mathlib.Core.Option.{Option, none, some, some-injective, none-ne-some}
 use mathlib.Core.List.{List, [], ◌∷◌, ◌++◌}
-use lib.Dec.{eqb, leb}
+use lib.Dec.{eqb, leb, ltb}
 use lib.ListN.{length, get_or, set, take, drop, length-drop, length-set, length-append}
 use lib.Seq.{drop-set-add, take-set-le, take-suc-set}
-use borrow.Author.Tests.{eq-eqb, ne_eqb, leb-true}
+use borrow.Author.Tests.{eq-eqb, ne_eqb, leb-true, ltb-true, ltb-false}
 use Rattle.formula.specs.Formula.{Face}
 use Rattle.formula.specs.Bytes.{dim_width, encode_face, nodes_face}
 use Rattle.formula.specs.Answers.{pick}
@@ -60,6 +60,13 @@ a-list (some xs) e h = record { list = xs; is = refl }
 pub no-list : {A : Type 0} (o : Option (List A)) {n : ℕ} → n ≡ many_of o → 256 < n → ((xs : List A) → o ≡ some xs → length xs ≤ 256) → o ≡ none
 no-list none e h f = refl
 no-list (some xs) e h f = absurd (omega (arith, e, h, f xs refl))
+
+-- A number that was packed is tested: too many, or few enough.
+pub many-over : (r : ℕ) {n : ℕ} {b : Bool} → n ≡ many_in r → b ≡ ltb 256 n → b ≡ true → 256 < many_in r
+many-over r {n} e d h = omega (arith, e, ltb-true 256 n (sym d ∙ h))
+
+pub many-few : (r : ℕ) {n : ℕ} {b : Bool} → n ≡ many_in r → b ≡ ltb 256 n → b ≡ false → many_in r ≤ 256
+many-few r {n} e d h = omega (arith, e, ltb-false 256 n (sym d ∙ h))
 
 -- ---- where the parts of a face stand, and their room
 

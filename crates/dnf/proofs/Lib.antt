@@ -1,12 +1,5 @@
-pub mod Close
 pub mod FindLaws
 pub mod FormLaws
-pub mod Item
 pub mod JoinLaws
-pub mod Lend
 pub mod NormalLaws
 pub mod PairLaws
-pub mod Past
-pub mod Plan
-pub mod Rows
-pub mod Said

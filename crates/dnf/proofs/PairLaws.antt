@@ -1,7 +1,6 @@
 -- Laws of the loops that pair the clauses of two lists.
 use Prim.Native.Nat.{ℕ, zero, suc, ◌+◌, ◌≤◌, ◌<◌}
-use native.Mathlib.Nat.{add-zero, add_assoc}
-use native.Mathlib.Numerals.{add-one}
+use native.Mathlib.Nat.{add_assoc}
 use native.Mathlib.Omega.{arith}
 use mathlib.Core.Path.{◌≡◌, refl, sym, ap, ◌∙◌, subst}
 use mathlib.Core.Bool.{Bool, true, false}
@@ -9,7 +8,7 @@ use mathlib.Core.List.{List, [], ◌∷◌, ◌++◌, append-nil, append_assoc}
 use lib.Dec.{leb}
 use borrow.Author.Tests.{le-leb, lt-leb, leb-false}
 use lib.ListN.{length, get_or, set, take, drop, length-append, length-set}
-use lib.Seq.{length-take-le, take-set-le, take-suc-set, take-nil, take-take}
+use lib.Seq.{length-take-le, take-set-le, take-nil, take-take}
 use Rattle.formula.specs.Answers.{pick}
 use Rattle.clauses.specs.Normal.{Handling, pairs_with, pairs}
 use Rattle.clauses.specs.Lists.{Adds, one_unless}

@@ -78,9 +78,9 @@ pub face-shown : (n : ℕ) (l : List ℕ) {G : List Face} {m : List ℕ} → (n 
 unfolding read_faces context_text items_text text_bytes
 face-shown zero l k e = absurd (k refl)
 face-shown (suc n) l {G} {m} k e =
+    let i : suc n - 1 ≡ n = omega arith in
     let u = turned e in
     let v = turned u.second in
-    let i : suc n - 1 ≡ n = omega arith in
     record {
       face = u.value;
       others = v.value;

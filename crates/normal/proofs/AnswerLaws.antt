@@ -15,13 +15,13 @@ use Rattle.formula.specs.declared.Sort.TheVariants.{Faces}
 use Rattle.formula.specs.declared.Size.{Size}
 use Rattle.formula.specs.declared.Measured.{Measured}
 use Rattle.formula.specs.declared.Measured.TheVariants.{Ill}
-use Rattle.formula.specs.Bytes.{encode, encode_face, read_all, nodes, nodes_face, bound, max_nodes, max_bound}
-use Rattle.formula.specs.Answers.{pick, size_of, keeps, said_measured, measurement, said_sized, kept, operand}
+use Rattle.formula.specs.Bytes.{encode, encode_face, read_all, nodes_face, bound, max_nodes, max_bound}
+use Rattle.formula.specs.Answers.{pick, size_of, keeps, said_measured, measurement, said_sized, operand}
 use Rattle.formula.specs.declared.Sized.{Sized}
 use Rattle.formula.specs.declared.Sized.TheVariants.{Fits, Refused as Refusing}
 use Rattle.formula.proofs.Measuring.{measured_as, measured, measured-as, WholeSize}
 use Rattle.formula.proofs.Operands.{Fitted, sized-fits, sized-refused, Opened, opened, opened-limits}
-use Rattle.formula.proofs.Reading.{read_all-encode, encode-read_all, encode-pos}
+use Rattle.formula.proofs.Reading.{read_all-encode, encode-pos}
 use Rattle.refusals.specs.declared.Refusal.{Refusal}
 use Rattle.refusals.specs.declared.Refusal.TheVariants.{LargeResult, ShortOutput}
 use Rattle.refusals.specs.Refusals.{Result, refused, done, map, of_one}

@@ -42,7 +42,7 @@ fn finish(l: &[u8], ix: &mut [u32], r: Ran)
 }
 
 // The cover step of a context and a goal, or 9, where the search is not finished yet.
-#[cycle(and_left_and_right_branch_cover_fresh_or_left_or_right_take_turn)]
+#[cycle(search)]
 fn fresh(l: &mut [u8], ix: &mut [u32], n: usize, g: &[u8], goal: &[u8]) -> Ran
     requires { Indexed l.old ix.old × Context n g.now × Known Faces goal.now }
     ensures { Runs (book l.old ix.old) (emit_cover (context_of n g.now) (tree_of Faces goal.now)) result (book l.new ix.new) }
@@ -53,7 +53,7 @@ fn fresh(l: &mut [u8], ix: &mut [u32], n: usize, g: &[u8], goal: &[u8]) -> Ran
 }
 
 // The cover step of a context and a goal, or 9. A search that this call has finished is not made again: it would append nothing and answer the same.
-#[cycle(and_left_and_right_branch_cover_fresh_or_left_or_right_take_turn)]
+#[cycle(search)]
 pub fn cover(l: &mut [u8], ix: &mut [u32], n: usize, g: &[u8], goal: &[u8]) -> Ran
     requires { Indexed l.old ix.old × Context n g.now × Known Faces goal.now }
     ensures { Runs (book l.old ix.old) (emit_cover (context_of n g.now) (tree_of Faces goal.now)) result (book l.new ix.new) }
@@ -65,7 +65,7 @@ pub fn cover(l: &mut [u8], ix: &mut [u32], n: usize, g: &[u8], goal: &[u8]) -> R
 }
 
 // The cover step of a context and a goal, or 9, by the next turn.
-#[cycle(and_left_and_right_branch_cover_fresh_or_left_or_right_take_turn)]
+#[cycle(search)]
 fn take_turn(l: &mut [u8], ix: &mut [u32], n: usize, g: &[u8], goal: &[u8]) -> Ran
     requires { Indexed l.old ix.old × Context n g.now × Known Faces goal.now }
     ensures { Runs (book l.old ix.old) (emit_cover (context_of n g.now) (tree_of Faces goal.now)) result (book l.new ix.new) }
@@ -84,7 +84,7 @@ fn take_turn(l: &mut [u8], ix: &mut [u32], n: usize, g: &[u8], goal: &[u8]) -> R
 }
 
 // The search in the context of m faces that are front, and behind it g without its bytes from `at` up to `end`. Only here is a context made.
-#[cycle(and_left_and_right_branch_cover_fresh_or_left_or_right_take_turn)]
+#[cycle(search)]
 fn branch(
     l: &mut [u8],
     ix: &mut [u32],
@@ -108,7 +108,7 @@ fn branch(
 }
 
 // The assumption number i, which begins at `at`, is a fand: both parts in its place.
-#[cycle(and_left_and_right_branch_cover_fresh_or_left_or_right_take_turn)]
+#[cycle(search)]
 fn and_left(
     l: &mut [u8],
     ix: &mut [u32],
@@ -145,7 +145,7 @@ fn and_left(
 }
 
 // It is a for: one part in its place, then the other.
-#[cycle(and_left_and_right_branch_cover_fresh_or_left_or_right_take_turn)]
+#[cycle(search)]
 fn or_left(
     l: &mut [u8],
     ix: &mut [u32],
@@ -188,7 +188,7 @@ fn or_left(
 }
 
 // The goal is a fand: both parts.
-#[cycle(and_left_and_right_branch_cover_fresh_or_left_or_right_take_turn)]
+#[cycle(search)]
 fn and_right(l: &mut [u8], ix: &mut [u32], n: usize, g: &[u8], goal: &[u8]) -> Ran
     requires { Indexed l.old ix.old × Context n g.now × Known Faces goal.now × Parts fand (tree_of Faces goal.now) }
     ensures { Runs (book l.old ix.old) (emit_move emit_cover (context_of n g.now) (tree_of Faces goal.now) (try_right (tree_of Faces goal.now))) result (book l.new ix.new) }
@@ -217,7 +217,7 @@ fn and_right(l: &mut [u8], ix: &mut [u32], n: usize, g: &[u8], goal: &[u8]) -> R
 }
 
 // The goal is a for: one part, and where that fails the other; the steps of the failed try stay.
-#[cycle(and_left_and_right_branch_cover_fresh_or_left_or_right_take_turn)]
+#[cycle(search)]
 fn or_right(l: &mut [u8], ix: &mut [u32], n: usize, g: &[u8], goal: &[u8]) -> Ran
     requires { Indexed l.old ix.old × Context n g.now × Known Faces goal.now × Parts for (tree_of Faces goal.now) }
     ensures { Runs (book l.old ix.old) (emit_move emit_cover (context_of n g.now) (tree_of Faces goal.now) (try_right (tree_of Faces goal.now))) result (book l.new ix.new) }

@@ -1,27 +1,27 @@
 -- The reader of formulas, from a place of a text on.
-use Prim.Native.Nat.{ℕ, zero, suc, ◌+◌, ◌-◌, ◌*◌, ◌≤◌, ◌<◌, max}
+use Prim.Native.Nat.{ℕ, zero, suc, ◌+◌, ◌-◌, ◌≤◌}
 use native.Mathlib.Omega.{arith}
 use mathlib.Core.Path.{◌≡◌, refl, sym, ap, ap₂, ◌∙◌, subst}
 use mathlib.Core.Bool.{Bool, true, false}
-use mathlib.Core.List.{List, [], ◌∷◌, ◌++◌}
+use mathlib.Core.List.{List, ◌∷◌}
 use lib.ListN.{length, drop, set, length-set, length-append}
 use lib.Seq.{sets, length-sets}
 use Rattle.formula.specs.declared.Sort.{Sort}
 use Rattle.formula.specs.declared.Kind.{Kind}
 use Rattle.formula.specs.declared.Kind.TheVariants.{Nullary, Literal, Unary, Binary, Unknown}
-use Rattle.formula.specs.Bytes.{Tree, dim_bytes, encode, Node, leaf, lit, one, two, bad, node_of, nodes, bound, max_bound}
+use Rattle.formula.specs.Bytes.{Tree, dim_bytes, encode, Node, leaf, lit, one, two, bad, node_of}
 use Rattle.formula.specs.Answers.{kind_by, kind_of}
 use Rattle.formula.proofs.Nodes.{Made, made_as}
 use Rattle.formula.proofs.Nodes.{len_short}
 use Rattle.records.proofs.NumberLaws.{sets-append}
 use Rattle.refusals.specs.declared.Refusal.{Refusal}
 use Rattle.refusals.specs.declared.Refusal.TheVariants.{TooManyNodes, NotAccepted}
-use Rattle.refusals.specs.Refusals.{Result, refused, done, map}
+use Rattle.refusals.specs.Refusals.{Result, refused, map}
 use Rattle.text.specs.Tokens.{Token, tokens}
 use Rattle.text.specs.Words.{kind_named, node_named}
-use Rattle.text.specs.Reading.{Item, part, part_list, number, close, Values, Reader, counted, bare_node, list_node, max_dim, run}
+use Rattle.text.specs.Reading.{Item, part, part_list, number, close, Reader, counted, bare_node, list_node, max_dim, run}
 use Rattle.text.specs.Scanning.{between, Lexes, Closes, number_at, Numerals}
-use Rattle.text.specs.Parsing.{head_kind, Shape, single, double, dimension, Thing, bytes_in, nodes_in, bound_in, Ready, ShapeReader, from, part_at, part_list_at, last_at, both_at, literal_at, bare_at, node_at, Found, Parses, EndFound, Ends}
+use Rattle.text.specs.Parsing.{head_kind, Shape, single, double, dimension, Thing, bytes_in, nodes_in, bound_in, Ready, ShapeReader, from, part_at, part_list_at, last_at, both_at, literal_at, bare_at, node_at, Found, Parses, Ends}
 use Rattle.text.specs.declared.Token.TheVariants.{Open, Close, Word, End}
 use Rattle.text.specs.declared.Closed.TheVariants.{Behind, Missing}
 use Rattle.text.specs.declared.Numeral.TheVariants.{Read as ReadNumber, Refused as RefusedNumber}

@@ -1,18 +1,18 @@
 -- The reader of numbers, from a place of a text on.
-use Prim.Native.Nat.{ℕ, zero, suc, ◌+◌, ◌-◌, ◌≤◌, ◌<◌}
+use Prim.Native.Nat.{ℕ, zero, suc, ◌+◌, ◌-◌, ◌≤◌}
 use native.Mathlib.Omega.{arith}
-use mathlib.Core.Path.{◌≡◌, refl, sym, ap, ◌∙◌, subst}
+use mathlib.Core.Path.{◌≡◌, refl, ap, ◌∙◌, subst}
 use mathlib.Core.Bool.{Bool, true, false}
-use mathlib.Core.List.{List, [], ◌∷◌}
-use lib.ListN.{length, drop}
+use mathlib.Core.List.{List, ◌∷◌}
+use lib.ListN.{drop}
 use Rattle.formula.specs.Answers.{pick, same_bytes}
 use Rattle.refusals.specs.declared.Refusal.{Refusal}
 use Rattle.refusals.specs.declared.Refusal.TheVariants.{LargeDimension, NotAccepted}
 use Rattle.refusals.specs.Refusals.{Result, refused, done, map}
-use Rattle.text.specs.Tokens.{Token, opening, closing, word, tokens}
+use Rattle.text.specs.Tokens.{Token, tokens}
 use Rattle.text.specs.Words.{zero_word, succ-word}
-use Rattle.text.specs.Reading.{Item, number, number_list, close, Values, succeeded, run}
-use Rattle.text.specs.Scanning.{between, Lexes, Closes, NumberReader, number_at, number_list_at, close_at, next_at, NumberRead, Numerals}
+use Rattle.text.specs.Reading.{Item, number, number_list, close, succeeded, run}
+use Rattle.text.specs.Scanning.{between, Lexes, Closes, NumberReader, number_at, number_list_at, close_at, next_at, Numerals}
 use Rattle.text.specs.declared.Token.TheVariants.{Open, Close, Word, End}
 use Rattle.text.specs.declared.Closed.{Closed}
 use Rattle.text.specs.declared.Closed.TheVariants.{Behind, Missing}

@@ -9,7 +9,7 @@ use lib.ListN.{length, get_or, take, drop, length-drop}
 use lib.Seq.{drop-cons, drop-drop, drop-length, get_or-drop}
 use borrow.Author.Tests.{eqb-true, eqb-false, eq-eqb, ne_eqb}
 use Rattle.formula.specs.Answers.{pick}
-use Rattle.text.specs.Tokens.{Token, opening, closing, word, Class, opens, closes, separates, spells, class_of, is_spelling, begins_word, longer, before, tokens}
+use Rattle.text.specs.Tokens.{Token, word, Class, opens, closes, separates, spells, class_of, is_spelling, begins_word, before, tokens}
 use Rattle.text.specs.Scanning.{class_number, span_of, between, Lexes}
 use Rattle.text.specs.declared.Token.{Token as Answered}
 use Rattle.text.specs.declared.Token.TheVariants.{Open, Close, Word, End}

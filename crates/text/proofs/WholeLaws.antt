@@ -1,17 +1,16 @@
 -- Whole texts: nothing follows, and what was made is delivered.
-use Prim.Native.Nat.{ℕ, zero, ◌+◌, ◌≤◌, ◌<◌}
+use Prim.Native.Nat.{ℕ, ◌+◌, ◌≤◌, ◌<◌}
 use native.Mathlib.Omega.{arith}
 use native.Mathlib.Nat.{zero-add}
 use mathlib.Core.Path.{◌≡◌, refl, sym, ap, ap₂, ◌∙◌, subst}
 use mathlib.Core.Bool.{Bool, true, false, ◌&&◌}
-use mathlib.Core.List.{List, [], ◌∷◌, ◌++◌, append-nil}
+use mathlib.Core.List.{List, [], ◌∷◌}
 use lib.Dec.{leb}
-use lib.ListN.{length, take, drop, length-append}
+use lib.ListN.{length, take, drop}
 use lib.Seq.{sets, sets-eq, length-sets, take_at}
 use borrow.Author.Tests.{le-leb, lt-leb}
 use Rattle.formula.specs.declared.Sort.{Sort}
 use Rattle.formula.specs.declared.Sort.TheVariants.{Faces}
-use Rattle.formula.specs.Formula.{Face}
 use Rattle.formula.specs.Bytes.{Tree, encode, nodes, max_nodes, max_bound}
 use Rattle.formula.specs.Answers.{pick, same_bytes, Put}
 use Rattle.formula.proofs.Nodes.{len_short}
@@ -22,9 +21,9 @@ use Rattle.text.specs.Tokens.{Token, tokens}
 use Rattle.text.specs.Words.{entails-word}
 use Rattle.text.specs.Reading.{Item, formula, part, number, claim, run, read_formula, Claimed, read_claim}
 use Rattle.text.specs.Scanning.{between, Lexes, number_at, Numerals}
-use Rattle.text.specs.Parsing.{single, part_at, from, Found, Parses}
-use Rattle.text.specs.Answers.{Delivered, delivered, said_length, ReadsInto, BothDelivered, both_put, both_delivered, said_claim, ReadsClaim}
-use Rattle.text.specs.Wholes.{Finishes, WholeFound, Whole, Delivers, DeliversBoth, ClaimStarts, SecondFace, FacesFound, BothFaces, ClaimFound, WholeClaim}
+use Rattle.text.specs.Parsing.{single, part_at, Found, Parses}
+use Rattle.text.specs.Answers.{delivered, ReadsInto, both_put, both_delivered, ReadsClaim}
+use Rattle.text.specs.Wholes.{Finishes, WholeFound, Whole, Delivers, DeliversBoth, ClaimStarts, SecondFace, BothFaces, ClaimFound, WholeClaim}
 use Rattle.text.specs.declared.Token.TheVariants.{Open, Close, Word, End}
 use Rattle.text.specs.declared.Closed.{Closed}
 use Rattle.text.specs.declared.Closed.TheVariants.{Behind, Missing}

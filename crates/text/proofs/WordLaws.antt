@@ -10,7 +10,7 @@ use lib.Dec.{eqb}
 use lib.ListN.{length}
 use Rattle.formula.specs.declared.Sort.TheVariants.{Faces, Intervals}
 use Rattle.formula.specs.Answers.{pick, same_bytes}
-use Rattle.text.specs.Tokens.{Class, opens, closes, separates, spells, class_of}
+use Rattle.text.specs.Tokens.{opens, closes, separates, spells, class_of}
 use Rattle.text.specs.Words.{names, place_of, kind_named}
 use Rattle.text.specs.Scanning.{class_number}
 

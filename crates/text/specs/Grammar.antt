@@ -1,6 +1,6 @@
 -- The accepted texts (document 01, "Text and listing"), as a grammar over tokens. Each relation says that the first list of tokens is
 -- a text of the thing followed by the second list. It knows no limits, and not how a reader goes.
-use Rattle.std.specs.Prelude.{ℕ, suc, ◌≡◌, List, [], ◌∷◌}
+use Rattle.std.specs.Prelude.{ℕ, suc, ◌≡◌, List, ◌∷◌}
 use Rattle.formula.specs.declared.Sort.{Sort}
 use Rattle.formula.specs.declared.Sort.TheVariants.{Faces}
 use Rattle.formula.specs.Formula.{Face}

@@ -4,11 +4,11 @@ use Rattle.std.proofs.lemmas.List.Edits.{sets}
 use Rattle.formula.specs.declared.Sort.{Sort}
 use Rattle.formula.specs.declared.Sort.TheVariants.{Faces}
 use Rattle.formula.specs.Formula.{Face}
-use Rattle.formula.specs.Bytes.{Tree, encode, max_bound}
+use Rattle.formula.specs.Bytes.{Tree, encode}
 use Rattle.refusals.specs.declared.Refusal.TheVariants.{NotAccepted}
-use Rattle.refusals.specs.Refusals.{Result, refused, done}
+use Rattle.refusals.specs.Refusals.{refused, done}
 use Rattle.text.specs.Tokens.{tokens}
-use Rattle.text.specs.Reading.{Item, formula, number, claim, run, read_formula, Claimed, read_claim}
+use Rattle.text.specs.Reading.{Item, formula, claim, run, read_claim}
 use Rattle.text.specs.Answers.{delivered, said_length, both_put, said_claim}
 use Rattle.text.specs.declared.Closed.{Closed}
 use Rattle.text.specs.declared.Closed.TheVariants.{Behind, Missing}

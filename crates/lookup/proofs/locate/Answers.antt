@@ -1,7 +1,5 @@
-use borrow.Author.Rules.{rules}
 use mathlib.Core.Path.{sym, ◌∙◌}
 use native.Mathlib.Omega.{arith}
-use borrow.Author.Tests.{not-true, not-false}
 use Rattle.ledger.specs.Ledger.{steps_of}
 use Rattle.ledger.proofs.CheckLaws.{sought-points}
 use Rattle.ledger.proofs.PointLaws.{inside}

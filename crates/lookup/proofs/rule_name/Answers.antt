@@ -1,4 +1,3 @@
-use borrow.Author.Rules.{rules}
 use Rattle.lookup.proofs.LookupLaws.{name-short, name-written}
 use Rattle.lookup.proofs.rule_name.Goals as goal
 

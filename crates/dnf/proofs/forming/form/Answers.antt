@@ -1,4 +1,3 @@
-use borrow.Author.Rules.{rules}
 use native.Mathlib.Omega.{arith}
 use Rattle.dnf.proofs.NormalLaws.{whole-asks, whole-shapes, whole-normals}
 use Rattle.dnf.proofs.forming.form.Goals as goal

@@ -1,4 +1,3 @@
-use borrow.Author.Rules.{rules}
 use native.Mathlib.Omega.{arith}
 use Rattle.writing.proofs.FormulaLaws.{fronts-part, prints-part}
 use Rattle.listing.proofs.ValueLaws.{context-long, context-asks, context-within, context-prints}
@@ -20,7 +19,7 @@ pub faces-q-requires : goal.faces-q-requires
 faces-q-requires c = fronts-part 2 c.args.f.now (context-asks c.args.f.now c.get2-n.ensures.0 c.requires)
 
 pub overflow_add-result : goal.overflow_add-result
-overflow_add-result c = omega (arith, c.well-formed!OLD, context-within c.args.f.now c.get2-n.ensures.0 (prints-part 2 c.args.f.now c.faces-q.ensures) c.requires)
+overflow_add-result c = omega (arith, context-within c.args.f.now c.get2-n.ensures.0 (prints-part 2 c.args.f.now c.faces-q.ensures) c.requires)
 
 pub returns : goal.returns
 returns c = context-prints c.args.f.now c.get2-n.ensures.0 (prints-part 2 c.args.f.now c.faces-q.ensures)

@@ -1,4 +1,3 @@
-use borrow.Author.Rules.{rules}
 use Rattle.listing.proofs.ValueLaws.{field-fronts, field-prints}
 use Rattle.listing.proofs.judgements.field.Goals as goal
 

@@ -1,4 +1,3 @@
-use borrow.Author.Rules.{rules}
 use Rattle.listing.proofs.ValueLaws.{number-shown, number-room, number-prints}
 use Rattle.listing.proofs.judgements.number.Goals as goal
 

@@ -1,8 +1,7 @@
-use borrow.Author.Rules.{rules}
 use native.Mathlib.Omega.{arith}
 use Rattle.calculus.specs.Table.{text_bytes}
 use mathlib.Core.Path.{◌≡◌}
-use Rattle.listing.proofs.LineLaws.{predicate-room, predicate-wrote, past}
+use Rattle.listing.proofs.LineLaws.{predicate-room, predicate-wrote}
 use Rattle.listing.proofs.judgements.put_predicate.Goals as goal
 
 pub put-requires : goal.put-requires
@@ -63,7 +62,7 @@ put-requires-in-13 c = predicate-room c.in-13.is c.requires.1
 
 pub put-requires-in_default : goal.put-requires-in_default
 unfolding text_bytes
-put-requires-in_default c = let n = c.in_default.rest!OLD in let h = (past 13 (past 12 (past 11 (past 10 (past 9 (past 8 (past 7 (past 6 (past 5 (past 4 (past 3 (past 2 (past 1 (past 0 (omega arith) n.0.0.0.0.0.0.0.0.0.0.0.0.0.1) n.0.0.0.0.0.0.0.0.0.0.0.0.1) n.0.0.0.0.0.0.0.0.0.0.0.1) n.0.0.0.0.0.0.0.0.0.0.1) n.0.0.0.0.0.0.0.0.0.1) n.0.0.0.0.0.0.0.0.1) n.0.0.0.0.0.0.0.1) n.0.0.0.0.0.0.1) n.0.0.0.0.0.1) n.0.0.0.0.1) n.0.0.0.1) n.0.0.1) n.0.1) n.1) in let last : c.args.predicate ≡ 14 = omega (arith, c.requires.0, h) in predicate-room last c.requires.1
+put-requires-in_default c = let last : c.args.predicate ≡ 14 = omega arith in predicate-room last c.requires.1
 
 pub returns-in-0 : goal.returns-in-0
 unfolding text_bytes
@@ -123,4 +122,4 @@ returns-in-13 c = predicate-wrote c.in-13.is c.put-in-13.ensures
 
 pub returns-in_default : goal.returns-in_default
 unfolding text_bytes
-returns-in_default c = let n = c.in_default.rest!OLD in let h = (past 13 (past 12 (past 11 (past 10 (past 9 (past 8 (past 7 (past 6 (past 5 (past 4 (past 3 (past 2 (past 1 (past 0 (omega arith) n.0.0.0.0.0.0.0.0.0.0.0.0.0.1) n.0.0.0.0.0.0.0.0.0.0.0.0.1) n.0.0.0.0.0.0.0.0.0.0.0.1) n.0.0.0.0.0.0.0.0.0.0.1) n.0.0.0.0.0.0.0.0.0.1) n.0.0.0.0.0.0.0.0.1) n.0.0.0.0.0.0.0.1) n.0.0.0.0.0.0.1) n.0.0.0.0.0.1) n.0.0.0.0.1) n.0.0.0.1) n.0.0.1) n.0.1) n.1) in let last : c.args.predicate ≡ 14 = omega (arith, c.requires.0, h) in predicate-wrote last c.put-in_default.ensures
+returns-in_default c = let last : c.args.predicate ≡ 14 = omega arith in predicate-wrote last c.put-in_default.ensures

@@ -1,4 +1,3 @@
-use borrow.Author.Rules.{rules}
 use Rattle.listing.proofs.LineLaws.{counted, not-counted}
 use Rattle.listing.proofs.lines.count.Goals as goal
 

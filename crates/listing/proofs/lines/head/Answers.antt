@@ -1,4 +1,3 @@
-use borrow.Author.Rules.{rules}
 use mathlib.Core.Path.{sym, ap}
 use mathlib.Core.List.{[], ◌∷◌, ◌++◌}
 use Rattle.kinds.specs.Kinds.{name_bytes}

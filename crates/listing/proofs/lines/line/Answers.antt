@@ -1,4 +1,3 @@
-use borrow.Author.Rules.{rules}
 use mathlib.Core.Path.{sym}
 use mathlib.Core.List.{[], ◌∷◌}
 use Rattle.writing.proofs.WriteLaws.{room-first, room_next, room_as, wrote-next, wrote_as}

@@ -1,4 +1,3 @@
-use borrow.Author.Rules.{rules}
 use mathlib.Core.Path.{sym, ◌∙◌}
 use Rattle.formula.specs.declared.Sort.TheVariants.{Faces}
 use Rattle.formula.proofs.Measuring.{sized-by}

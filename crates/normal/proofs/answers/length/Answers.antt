@@ -1,4 +1,3 @@
-use borrow.Author.Rules.{rules}
 use mathlib.Core.Path.{sym, ap}
 use Rattle.formula.specs.declared.Size.{Size}
 use Rattle.refusals.specs.Refusals.{map}

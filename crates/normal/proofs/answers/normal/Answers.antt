@@ -1,4 +1,3 @@
-use borrow.Author.Rules.{rules}
 use Rattle.normal.proofs.AnswerLaws.{normal-refused, normal-whole, normal-gives}
 use Rattle.normal.proofs.answers.normal.Goals as goal
 

@@ -1,6 +1,4 @@
-use borrow.Author.Rules.{rules}
 use mathlib.Core.Path.{sym, ◌∙◌}
-use borrow.Author.Tests.{not-true, not-false}
 use native.Mathlib.Omega.{arith}
 use Rattle.text.proofs.ParseLaws.{word-as, bare-refused, bare-none, bare-read}
 use Rattle.text.proofs.formulas.bare.Goals as goal

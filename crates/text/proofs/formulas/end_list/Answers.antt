@@ -1,4 +1,3 @@
-use borrow.Author.Rules.{rules}
 use Rattle.text.proofs.ReadLaws.{closed-as}
 use Rattle.text.proofs.ParseLaws.{ends_read, ends-missing}
 use Rattle.text.proofs.formulas.end_list.Goals as goal

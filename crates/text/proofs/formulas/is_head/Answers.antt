@@ -1,4 +1,3 @@
-use borrow.Author.Rules.{rules}
 use mathlib.Core.Path.{sym, ap, ◌∙◌}
 use Rattle.text.specs.Parsing.{head_kind}
 use Rattle.text.proofs.formulas.is_head.Goals as goal

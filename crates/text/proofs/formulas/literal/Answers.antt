@@ -1,4 +1,3 @@
-use borrow.Author.Rules.{rules}
 use Rattle.text.proofs.ReadLaws.{numeral-of, numeral-no}
 use native.Mathlib.Omega.{arith}
 use Rattle.text.proofs.ParseLaws.{literal-parses, literal-refused}

@@ -1,4 +1,3 @@
-use borrow.Author.Rules.{rules}
 use Rattle.text.proofs.ReadLaws.{closed-read, closed-missing, closed-as}
 use Rattle.text.proofs.numbers.closed.Goals as goal
 

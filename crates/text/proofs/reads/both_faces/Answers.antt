@@ -1,4 +1,3 @@
-use borrow.Author.Rules.{rules}
 use native.Mathlib.Omega.{arith}
 use Rattle.text.proofs.ParseLaws.{found_of, refused-of}
 use Rattle.text.proofs.WholeLaws.{faces-found, faces-refused}

@@ -1,4 +1,3 @@
-use borrow.Author.Rules.{rules}
 use native.Mathlib.Omega.{arith}
 use Rattle.text.proofs.ReadLaws.{numeral-of, numeral-no}
 use Rattle.text.proofs.WholeLaws.{starts-as, claim-found, claim-no-number, claim-no-word}

@@ -1,4 +1,3 @@
-use borrow.Author.Rules.{rules}
 use Rattle.text.proofs.WholeLaws.{delivers, delivers-not}
 use Rattle.text.proofs.reads.deliver.Goals as goal
 

@@ -1,4 +1,3 @@
-use borrow.Author.Rules.{rules}
 use native.Mathlib.Omega.{arith}
 use Rattle.text.proofs.WholeLaws.{both-short-left, both-short-right, both-put}
 use Rattle.text.proofs.reads.deliver_both.Goals as goal

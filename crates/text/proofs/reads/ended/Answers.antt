@@ -1,4 +1,3 @@
-use borrow.Author.Rules.{rules}
 use Rattle.text.proofs.ScanLaws.{lexed}
 use Rattle.text.proofs.WholeLaws.{not-open, not-close, not-word, at-end}
 use Rattle.text.proofs.reads.ended.Goals as goal

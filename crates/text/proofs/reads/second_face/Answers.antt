@@ -1,4 +1,3 @@
-use borrow.Author.Rules.{rules}
 use Rattle.text.proofs.WholeLaws.{whole_of, whole-no, second-found}
 use Rattle.text.proofs.reads.second_face.Goals as goal
 

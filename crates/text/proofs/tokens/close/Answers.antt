@@ -1,4 +1,3 @@
-use borrow.Author.Rules.{rules}
 use Rattle.text.proofs.ScanLaws.{lexed}
 use Rattle.text.proofs.ReadLaws.{closes-open, closes-word, closes-end, closes-close}
 use Rattle.text.proofs.tokens.close.Goals as goal

@@ -1,10 +1,7 @@
-use borrow.Author.Rules.{rules}
-use mathlib.Core.Path.{◌≡◌, refl, sym, ◌∙◌}
+use mathlib.Core.Path.{◌≡◌}
 use Prim.Native.Nat.{◌+◌, ◌-◌, ◌≤◌}
-use native.Mathlib.Omega.{arith}
 use lib.ListN.{length, drop}
 use Rattle.text.specs.Scanning.{span_of}
-use Rattle.text.proofs.ScanLaws.{span-next, span-stop, span-end}
 use Rattle.text.proofs.tokens.span.Given as goal
 
 abbrev pub invariant-loop-i : goal.invariant-loop-i

@@ -1,5 +1,4 @@
 use Rattle.calculus.specs.Table.{text_bytes}
-use borrow.Author.Rules.{rules}
 use Rattle.text.proofs.words.is_zero.Goals as goal
 
 pub returns : goal.returns

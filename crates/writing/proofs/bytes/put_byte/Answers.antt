@@ -1,4 +1,3 @@
-use borrow.Author.Rules.{rules}
 use Rattle.writing.proofs.WriteLaws.{wrote-beyond}
 use mathlib.Core.List.{[], ◌∷◌}
 use Rattle.writing.proofs.bytes.put_byte.Goals as goal

@@ -1,8 +1,5 @@
-use native.Mathlib.Omega.{arith}
 use Prim.Native.Nat.{◌≤◌, ◌-◌}
 use Rattle.writing.specs.Writing.{Wrote, times}
-use mathlib.Core.Path.{ap}
-use Rattle.writing.proofs.WriteLaws.{times-room, wrote_none, times-wrote, wrote-length, wrote_as}
 use Rattle.writing.proofs.bytes.put_times.Given as goal
 
 abbrev pub invariant-loop-i : goal.invariant-loop-i

@@ -1,4 +1,3 @@
-use borrow.Author.Rules.{rules}
 use mathlib.Core.List.{[], ◌∷◌}
 use Rattle.writing.specs.Writing.{node_name}
 use Rattle.writing.proofs.WriteLaws.{room-first, room_next, wrote-next}

@@ -1,4 +1,3 @@
-use borrow.Author.Rules.{rules}
 use Rattle.calculus.specs.Table.{text_bytes}
 use Rattle.writing.proofs.TextLaws.{face-asks, face-wrote, interval-asks, interval-wrote}
 use Rattle.writing.proofs.formulas.put_name.Goals as goal

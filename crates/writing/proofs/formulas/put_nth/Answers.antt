@@ -1,4 +1,3 @@
-use borrow.Author.Rules.{rules}
 use native.Mathlib.Omega.{arith}
 use mathlib.Core.List.{[], ◌∷◌}
 use mathlib.Core.Path.{◌≡◌}
@@ -21,7 +20,7 @@ pub put-requires-in-4 : goal.put-requires-in-4
 put-requires-in-4 c = let a = c.args in room_at (a.a.now ∷ a.b.now ∷ a.c.now ∷ a.d.now ∷ a.e.now ∷ a.f.now ∷ []) c.in-4.is c.requires.1
 
 pub put-requires-in_default : goal.put-requires-in_default
-put-requires-in_default c = let a = c.args in let last : a.j ≡ 5 = let n = c.in_default.rest!OLD in omega (arith, c.requires.0, n.1, n.0.1, n.0.0.1, n.0.0.0.1, n.0.0.0.0.1) in room_at (a.a.now ∷ a.b.now ∷ a.c.now ∷ a.d.now ∷ a.e.now ∷ a.f.now ∷ []) last c.requires.1
+put-requires-in_default c = let a = c.args in let last : a.j ≡ 5 = omega arith in room_at (a.a.now ∷ a.b.now ∷ a.c.now ∷ a.d.now ∷ a.e.now ∷ a.f.now ∷ []) last c.requires.1
 
 pub returns-in-0 : goal.returns-in-0
 returns-in-0 c = let a = c.args in wrote_at (a.a.now ∷ a.b.now ∷ a.c.now ∷ a.d.now ∷ a.e.now ∷ a.f.now ∷ []) c.in-0.is c.put.ensures
@@ -39,4 +38,4 @@ pub returns-in-4 : goal.returns-in-4
 returns-in-4 c = let a = c.args in wrote_at (a.a.now ∷ a.b.now ∷ a.c.now ∷ a.d.now ∷ a.e.now ∷ a.f.now ∷ []) c.in-4.is c.put-in-4.ensures
 
 pub returns-in_default : goal.returns-in_default
-returns-in_default c = let a = c.args in let last : a.j ≡ 5 = let n = c.in_default.rest!OLD in omega (arith, c.requires.0, n.1, n.0.1, n.0.0.1, n.0.0.0.1, n.0.0.0.0.1) in wrote_at (a.a.now ∷ a.b.now ∷ a.c.now ∷ a.d.now ∷ a.e.now ∷ a.f.now ∷ []) last c.put-in_default.ensures
+returns-in_default c = let a = c.args in let last : a.j ≡ 5 = omega arith in wrote_at (a.a.now ∷ a.b.now ∷ a.c.now ∷ a.d.now ∷ a.e.now ∷ a.f.now ∷ []) last c.put-in_default.ensures

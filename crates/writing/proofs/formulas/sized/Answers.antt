@@ -1,4 +1,3 @@
-use borrow.Author.Rules.{rules}
 use Rattle.writing.proofs.DeliverLaws.{sized-short, sized-wrote}
 use Rattle.writing.proofs.formulas.sized.Goals as goal
 

@@ -1,4 +1,3 @@
-use borrow.Author.Rules.{rules}
 use Rattle.writing.proofs.DeliverLaws.{writes-refused, writes-front, writes-in}
 use Rattle.writing.proofs.formulas.write_formula.Goals as goal
 
