@@ -5,28 +5,33 @@
 mod cases;
 mod show;
 
+use std::io;
+use std::io::{BufReader, BufWriter, Read, Write};
+
 // The next case; false where none is left.
-fn next(space: &mut [u8]) -> bool {
-    let c = cases::head();
+fn next<R: Read, W: Write>(input: &mut R, out: &mut W, space: &mut [u8]) -> io::Result<bool> {
+    let c = cases::head(input)?;
     if c.what == 0 {
-        return false;
+        return Ok(false);
     }
-    cases::run(c, space);
-    true
+    cases::run(input, out, c, space)?;
+    Ok(true)
 }
 
 // All cases, at most a thousand.
-fn all(space: &mut [u8]) {
-    let mut left: usize = 1000;
-    while 0 < left {
-        if !next(space) {
-            return;
+fn all<R: Read, W: Write>(input: &mut R, out: &mut W, space: &mut [u8]) -> io::Result<()> {
+    for _ in 0..1000usize {
+        if !next(input, out, space)? {
+            break;
         }
-        left -= 1;
     }
+    Ok(())
 }
 
-fn main() {
+fn main(rt: HostRuntime) -> io::Result<()> {
+    let mut input = BufReader::new(rt.alloc(), rt.reader())?;
+    let mut out = BufWriter::new(rt.alloc(), io::writer(&rt))?;
     let mut space = stdio::room();
-    all(&mut space);
+    all(&mut input, &mut out, &mut space)?;
+    out.flush()
 }

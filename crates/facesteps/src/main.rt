@@ -4,33 +4,22 @@
 ghost use Rattle.std.specs.Prelude.{◌≡◌, ◌≤◌, length};
 ghost use Rattle.ledger.specs.Ledger.{Led};
 
-use libc::{STDIN_FILENO, STDOUT_FILENO};
-
-// Whether byte 10 is among the bytes.
-fn ends_line(s: &[u8]) -> bool {
-    let mut i: usize = 0;
-    while i < s.len() {
-        if s[i] == 10 {
-            return true;
-        }
-        i += 1;
-    }
-    false
-}
+use std::io;
+use std::io::{Read, Write};
 
 // Reads until a line has ended, the input has, or the space is full; how many bytes were read.
-fn read_line(space: &mut [u8]) -> usize
+fn read_line<R: Read>(input: &mut R, space: &mut [u8]) -> usize
     ensures { result ≤ length space.old }
 {
     let mut n: usize = 0;
     while n < space.len() {
-        let more = stdio::read_more(STDIN_FILENO, space, n);
+        let more = stdio::read_more(input, space, n);
         let m = more.len;
         if m == n {
             return n;
         }
         n = m;
-        if ends_line(&space[..n]) {
+        if space[..n].contains(&10) {
             return n;
         }
     }
@@ -38,7 +27,7 @@ fn read_line(space: &mut [u8]) -> usize
 }
 
 // Prints the lines of all steps, page by page.
-fn print_lines(ledger: &[u8], space: &mut [u8])
+fn print_lines<W: Write>(out: &mut W, ledger: &[u8], space: &mut [u8]) -> io::Result<()>
     requires { Led ledger.now × (length ledger.now ≤ 65536) × (2600000 ≤ length space.old) }
 {
     let end = ledger::used(ledger);
@@ -47,10 +36,11 @@ fn print_lines(ledger: &[u8], space: &mut [u8])
     while at < end {
         let p = claims::next_page(ledger, step, at, space);
         let len = p.len;
-        io::write_all(STDOUT_FILENO, &space[..len]);
+        stdio::text(out, &space[..len])?;
         step = p.step;
         at = p.at;
     }
+    Ok(())
 }
 
 // Room for a page.
@@ -60,13 +50,18 @@ fn room() -> [u8; 2600000]
     [0; 2600000]
 }
 
-fn main() {
+// Asks the claim that the input's first line is, and prints its steps and the answer.
+fn run<R: Read, W: Write>(input: &mut R, out: &mut W) -> io::Result<()> {
     let mut line = [0u8; 4097];
-    let n = read_line(&mut line);
+    let n = read_line(input, &mut line);
     let mut ledger = [0u8; 65536];
     let answer = claims::ask(&line[..n], &mut ledger);
     let mut space = room();
-    print_lines(&ledger, &mut space);
+    print_lines(out, &ledger, &mut space)?;
     let len = claims::verdict(answer, &mut space, 0);
-    io::write_all(STDOUT_FILENO, &space[..len]);
+    stdio::text(out, &space[..len])
+}
+
+fn main(rt: HostRuntime) -> io::Result<()> {
+    run(&mut rt.reader(), &mut io::writer(&rt))
 }

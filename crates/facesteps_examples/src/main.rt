@@ -2,42 +2,39 @@
 // bytes, and byte 10 (tools/facesteps/cases.py writes them, and what is to be printed). A long output is shown by its length and sum.
 #![tactic(auto)]
 
-ghost use Rattle.std.specs.Prelude.{◌≤◌, length};
-
-use libc::STDIN_FILENO;
+use std::io;
+use std::io::{BufWriter, Write};
 use text::Length;
 
 // Adler's two sums of the bytes.
-fn print_sum(s: &[u8]) {
+fn print_sum<W: Write>(out: &mut W, s: &[u8]) -> io::Result<()> {
     let mut a: usize = 1;
     let mut b: usize = 0;
-    let mut i: usize = 0;
-    while i < s.len() {
-        a = (a % 65521 + stdio::wide(s[i])) % 65521;
+    for x in s {
+        a = (a % 65521 + stdio::wide(*x)) % 65521;
         b = (b % 65521 + a) % 65521;
-        i += 1;
     }
-    stdio::text(b"length ");
-    stdio::number(s.len());
-    stdio::text(b" sum ");
-    stdio::number(a);
-    stdio::text(b" ");
-    stdio::number(b);
-    stdio::text(b"\n");
+    stdio::text(out, b"length ")?;
+    stdio::number(out, s.len())?;
+    stdio::text(out, b" sum ")?;
+    stdio::number(out, a)?;
+    stdio::text(out, b" ")?;
+    stdio::number(out, b)?;
+    stdio::text(out, b"\n")
 }
 
-fn print_output(s: &[u8]) {
+fn print_output<W: Write>(out: &mut W, s: &[u8]) -> io::Result<()> {
     if 2000 < s.len() {
-        return print_sum(s);
+        return print_sum(out, s);
     }
-    stdio::text(s);
+    stdio::text(out, s)
 }
 
 // What facesteps prints for an input.
-fn run(input: &[u8], space: &mut [u8]) {
+fn run<W: Write>(out: &mut W, input: &[u8], space: &mut [u8]) -> io::Result<()> {
     match claims::facesteps(input, space) {
-        Length::Bytes(n) => print_output(stdio::first(space, n)),
-        Length::Refused(_) => stdio::text(b"too long\n"),
+        Length::Bytes(n) => print_output(out, stdio::first(space, n)),
+        Length::Refused(_) => stdio::text(out, b"too long\n"),
     }
 }
 
@@ -62,43 +59,44 @@ fn number_at(s: &[u8], from: usize) -> Number {
 }
 
 // The case at a place, and the place of the next.
-fn next(s: &[u8], from: usize, space: &mut [u8]) -> usize {
+fn next<W: Write>(out: &mut W, s: &[u8], from: usize, space: &mut [u8]) -> io::Result<usize> {
     let n = number_at(s, from);
     let at = n.end;
     let len = n.value;
     if s.len() < at {
-        return s.len();
+        return Ok(s.len());
     }
     if s.len() - at < len {
-        return s.len();
+        return Ok(s.len());
     }
     let end = at + len;
-    run(&s[at..end], space);
+    run(out, &s[at..end], space)?;
     if end < s.len() {
-        return end + 1;
+        return Ok(end + 1);
     }
-    end
+    Ok(end)
 }
 
 // All cases, at most a thousand.
-fn all(s: &[u8], space: &mut [u8]) {
+fn all<W: Write>(out: &mut W, s: &[u8], space: &mut [u8]) -> io::Result<()> {
     let mut at: usize = 0;
-    let mut i: usize = 1;
-    while i < 1000 {
+    for i in 1..1000usize {
         if s.len() <= at {
-            return;
+            break;
         }
-        stdio::text(b"case ");
-        stdio::number(i);
-        stdio::text(b"\n");
-        at = next(s, at, space);
-        i += 1;
+        stdio::text(out, b"case ")?;
+        stdio::number(out, i)?;
+        stdio::text(out, b"\n")?;
+        at = next(out, s, at, space)?;
     }
+    Ok(())
 }
 
-fn main() {
+fn main(rt: HostRuntime) -> io::Result<()> {
     let mut input = stdio::room();
-    let n = io::read_full(STDIN_FILENO, &mut input);
+    let n = stdio::fill(&mut rt.reader(), &mut input)?;
+    let mut out = BufWriter::new(rt.alloc(), io::writer(&rt))?;
     let mut space = [0u8; 65536];
-    all(&input[..n], &mut space);
+    all(&mut out, &input[..n], &mut space)?;
+    out.flush()
 }

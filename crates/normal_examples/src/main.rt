@@ -2,55 +2,53 @@
 #![tactic(auto)]
 
 use normal::Normalised;
+use std::io;
+use std::io::{BufReader, BufWriter, Read, Write};
 
-// 255 in every byte.
-fn fill(s: &mut [u8]) {
-    let mut i = 0;
-    while i < s.len() {
-        s[i] = 255;
-        i += 1;
-    }
-}
-
-fn tell(a: Normalised) {
+fn tell<W: Write>(out: &mut W, a: Normalised) -> io::Result<()> {
     match a {
         Normalised::Form(z) => {
-            stdio::text(b" length ");
-            stdio::number(z.len);
+            stdio::text(out, b" length ")?;
+            stdio::number(out, z.len)?;
         }
         Normalised::Refused(e) => {
-            stdio::text(b" refused ");
-            stdio::number(refusals::number(e));
+            stdio::text(out, b" refused ")?;
+            stdio::number(out, refusals::number(e))?;
         }
     }
-    stdio::text(b":");
+    stdio::text(out, b":")
 }
 
-// A case whose label has n bytes: the face, what is answered, and every byte of the lent slice.
-fn case(n: usize) {
-    let room = stdio::read_number();
-    let m = stdio::read_number();
-    let mut label = io::buffer();
-    stdio::text(stdio::read_bytes(&mut label, n));
-    let mut face = io::buffer();
-    let f = stdio::read_bytes(&mut face, m);
-    let mut lent = io::buffer();
-    let out = stdio::part(&mut lent, room);
-    fill(out);
-    tell(normal::normal(f, out));
-    stdio::bytes(out);
-    stdio::text(b"\n");
+// A case whose label has n bytes: the face, what is answered, and every byte of the lent slice, 255 before the call.
+fn case<R: Read, W: Write>(input: &mut R, out: &mut W, n: usize) -> io::Result<()> {
+    let room = stdio::read_number(input)?;
+    let m = stdio::read_number(input)?;
+    let mut label = [0u8; 4096];
+    stdio::text(out, stdio::read_bytes(input, &mut label, n)?)?;
+    let mut face = [0u8; 4096];
+    let f = stdio::read_bytes(input, &mut face, m)?;
+    let mut lent = [255u8; 4096];
+    let form = stdio::part(&mut lent, room);
+    tell(out, normal::normal(f, form))?;
+    stdio::bytes(out, form)?;
+    stdio::text(out, b"\n")
 }
 
-// The input ends where no label follows.
-fn main() {
-    let mut left: usize = 1000;
-    while 0 < left {
-        let n = stdio::read_number();
+// The input ends where no label follows. At most a thousand cases.
+fn cases<R: Read, W: Write>(input: &mut R, out: &mut W) -> io::Result<()> {
+    for _ in 0..1000usize {
+        let n = stdio::read_number(input)?;
         if n == 0 {
-            return;
+            break;
         }
-        case(n);
-        left -= 1;
+        case(input, out, n)?;
     }
+    Ok(())
+}
+
+fn main(rt: HostRuntime) -> io::Result<()> {
+    let mut input = BufReader::new(rt.alloc(), rt.reader())?;
+    let mut out = BufWriter::new(rt.alloc(), io::writer(&rt))?;
+    cases(&mut input, &mut out)?;
+    out.flush()
 }

@@ -1,61 +1,71 @@
 // Says whether the ledgers in two files repeat each other.
 #![tactic(auto)]
 
-ghost use Rattle.io.specs.Counts.{IsPrefixLen};
+ghost use Rattle.stdio.specs.Front.{IsPrefixLen};
+ghost use Rattle.std.specs.Prelude.{IfOk};
 
 use repeat_test::Compared;
+use std::env::Env;
+use std::fs::Files;
+use std::io;
+use std::io::Write;
 use stdio::Content;
 
 // What is wrong with the file that argument i names, as a line.
-fn complain(i: usize, words: &[u8]) {
-    files::print_name(i);
-    stdio::text(words);
+fn complain<R: Env, W: Write>(rt: &R, out: &mut W, i: usize, words: &[u8]) -> io::Result<()> {
+    files::print_name(rt, i, out)?;
+    stdio::text(out, words)
 }
 
 // Reads the ledger in the file that argument i names; says why where there is none.
-fn load(i: usize, space: &mut [u8]) -> Content
-    ensures { IsPrefixLen result.len space.new }
+fn load<R: Env + Files, W: Write>(
+    rt: &R,
+    out: &mut W,
+    i: usize,
+    space: &mut [u8],
+) -> io::Result<Content>
+    ensures { IfOk result (λ r. IsPrefixLen r.len space.new) }
 {
-    let content = files::read(i, space);
+    let content = files::read(rt, i, space);
     let n = content.len;
     if !content.whole {
-        complain(i, b": cannot be read\n");
-        return content;
+        complain(rt, out, i, b": cannot be read\n")?;
+        return Ok(content);
     }
     if 1048576 < n {
-        complain(i, b": longer than a ledger may be\n");
-        return Content {
+        complain(rt, out, i, b": longer than a ledger may be\n")?;
+        return Ok(Content {
             len: n,
             whole: false,
-        };
+        });
     }
-    content
+    Ok(content)
 }
 
-fn tell(c: Compared) {
+fn tell<W: Write>(out: &mut W, c: Compared) -> io::Result<()> {
     match c {
-        Compared::Repeats => stdio::text(b"repeats\n"),
-        Compared::Fresh => stdio::text(b"fresh\n"),
-        Compared::Refused(e) => stdio::line(b"refused ", refusals::number(e)),
+        Compared::Repeats => stdio::text(out, b"repeats\n"),
+        Compared::Fresh => stdio::text(out, b"fresh\n"),
+        Compared::Refused(e) => stdio::line(out, b"refused ", refusals::number(e)),
     }
 }
 
-fn main() {
-    if os::arg_count() != 3 {
-        stdio::text(b"usage: repeats LEDGER LEDGER\n");
-        return;
+fn main(rt: HostRuntime) -> io::Result<()> {
+    let mut out = io::writer(&rt);
+    if files::arg_count(&rt) != 3 {
+        return stdio::text(&mut out, b"usage: repeats LEDGER LEDGER\n");
     }
     let mut first = stdio::room();
     let mut second = stdio::room();
-    let a = load(1, &mut first);
-    let b = load(2, &mut second);
+    let a = load(&rt, &mut out, 1, &mut first)?;
+    let b = load(&rt, &mut out, 2, &mut second)?;
     let n = a.len;
     let k = b.len;
     if !a.whole {
-        return;
+        return Ok(());
     }
     if !b.whole {
-        return;
+        return Ok(());
     }
-    tell(repeat_test::repeats(&first[..n], &second[..k]));
+    tell(&mut out, repeat_test::repeats(&first[..n], &second[..k]))
 }

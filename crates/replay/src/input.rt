@@ -1,4 +1,6 @@
 // What standard input says of a call.
+use std::io;
+use std::io::Read;
 
 // A sum of bytes: each half is below 65,521.
 #[derive(Clone, Copy)]
@@ -22,22 +24,22 @@ pub struct Heading {
     pub answer: usize,
 }
 
-pub fn sum() -> Sums {
-    let b = stdio::word();
-    Sums {
+pub fn sum<R: Read>(input: &mut R) -> io::Result<Sums> {
+    let b = stdio::word(input)?;
+    Ok(Sums {
         a: stdio::low(&b),
         b: stdio::high(&b),
-    }
+    })
 }
 
-pub fn head() -> Heading {
-    let k = stdio::word();
-    let n = stdio::read_number();
-    let rooms = stdio::word();
-    let operands = stdio::word();
-    let answer = stdio::read_number();
-    let results = stdio::word();
-    Heading {
+pub fn head<R: Read>(input: &mut R) -> io::Result<Heading> {
+    let k = stdio::word(input)?;
+    let n = stdio::read_number(input)?;
+    let rooms = stdio::word(input)?;
+    let operands = stdio::word(input)?;
+    let answer = stdio::read_number(input)?;
+    let results = stdio::word(input)?;
+    Ok(Heading {
         kind: k[0],
         one: k[1],
         result: stdio::low(&results),
@@ -47,6 +49,6 @@ pub fn head() -> Heading {
         room2: stdio::high(&rooms),
         operand: stdio::low(&operands),
         operand2: stdio::high(&operands),
-        answer: answer,
-    }
+        answer,
+    })
 }

@@ -1,6 +1,8 @@
 // What the engine answered and wrote, held against what is expected.
 use crate::input::{Heading, Sums};
 use crate::lend::FILL;
+use std::io;
+use std::io::Read;
 
 // An answer: the step's number or the refusal's, and the result's length.
 #[derive(Clone, Copy)]
@@ -35,14 +37,10 @@ fn sum(s: &[u8], n: usize, from: Sums) -> Sums {
 
 // Whether all bytes from a place on are the same.
 fn rest(s: &[u8], from: usize, byte: u8) -> bool {
-    let mut i = from;
-    while i < s.len() {
-        if s[i] != byte {
-            return false;
-        }
-        i += 1;
+    if s.len() < from {
+        return true;
     }
-    true
+    s[from..].iter().all(|x| *x == byte)
 }
 
 fn same(x: Sums, y: Sums) -> bool {
@@ -59,18 +57,18 @@ fn begins(s: &[u8], want: &[u8]) -> bool {
 }
 
 // Reads a result of n bytes: the output begins with it, and its other bytes stayed. An output that the call does not have is empty.
-pub fn written(n: usize, out: &[u8]) -> bool {
-    let mut space = io::buffer();
-    let want: &[u8] = stdio::read_bytes(&mut space, n);
-    begins(out, want) && rest(out, n, FILL)
+pub fn written<R: Read>(input: &mut R, n: usize, out: &[u8]) -> io::Result<bool> {
+    let mut space = [0u8; 4096];
+    let want: &[u8] = stdio::read_bytes(input, &mut space, n)?;
+    Ok(begins(out, want) && rest(out, n, FILL))
 }
 
 // Reads how many bytes of the ledger are given, and these: it begins with them.
-pub fn given(l: &[u8]) -> bool {
-    let n = stdio::read_number();
-    let mut space = io::buffer();
-    let want: &[u8] = stdio::read_bytes(&mut space, n);
-    begins(l, want)
+pub fn given<R: Read>(input: &mut R, l: &[u8]) -> io::Result<bool> {
+    let n = stdio::read_number(input)?;
+    let mut space = [0u8; 4096];
+    let want: &[u8] = stdio::read_bytes(input, &mut space, n)?;
+    Ok(begins(l, want))
 }
 
 // The ledger's used bytes by their sum; the others are zero.

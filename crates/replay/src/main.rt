@@ -11,6 +11,8 @@ use crate::input::Heading;
 use crate::judge::Said;
 use formula::Sort;
 use replies::{Called, Made};
+use std::io;
+use std::io::{BufReader, BufWriter, Read, Write};
 
 fn step(a: Called) -> Said {
     match a {
@@ -68,90 +70,120 @@ fn ask(l: &mut [u8], h: Heading, a: &[u8], b: &[u8], out: &mut [u8], second: &mu
 }
 
 // The next call; true where answer and outputs are as expected. Operands and outputs are at most 4,096 bytes long.
-fn call(l: &mut [u8], t: &mut [usize; 23]) -> bool {
-    let h = input::head();
-    let mut first = io::buffer();
-    let mut other = io::buffer();
-    let a: &[u8] = stdio::read_bytes(&mut first, h.operand);
-    let b: &[u8] = stdio::read_bytes(&mut other, h.operand2);
+fn call<R: Read>(input: &mut R, l: &mut [u8], t: &mut [usize; 23]) -> io::Result<bool> {
+    let h = input::head(input)?;
+    let mut first = [0u8; 4096];
+    let mut other = [0u8; 4096];
+    let a: &[u8] = stdio::read_bytes(input, &mut first, h.operand)?;
+    let b: &[u8] = stdio::read_bytes(input, &mut other, h.operand2)?;
     let mut out = lend::filled();
     let mut second = lend::filled();
     let o: &mut [u8] = stdio::part(&mut out, h.room);
     let p: &mut [u8] = stdio::part(&mut second, h.room2);
     let said = ask(l, h, a, b, o, p);
     tally::call(t, h.kind as usize, said);
-    let one = judge::written(h.result, o);
-    let two = judge::written(h.result2, p);
-    judge::answered(h, said) && one && two
+    let one = judge::written(input, h.result, o)?;
+    let two = judge::written(input, h.result2, p)?;
+    Ok(judge::answered(h, said) && one && two)
 }
 
 // A line where something differs: the list, and the call from 1 on, or 0 for the ledger behind the last call.
-fn note(t: &mut [usize; 23], list: usize, call: usize, agreed: bool) {
+fn note<W: Write>(
+    out: &mut W,
+    t: &mut [usize; 23],
+    list: usize,
+    call: usize,
+    agreed: bool,
+) -> io::Result<()> {
     if agreed {
-        return;
+        return Ok(());
     }
     tally::count(t, tally::DIFFERENCES);
-    stdio::text(b"list ");
-    stdio::number(list);
+    stdio::text(out, b"list ")?;
+    stdio::number(out, list)?;
     if call == 0 {
-        return stdio::text(b": the ledger differs\n");
+        return stdio::text(out, b": the ledger differs\n");
     }
-    stdio::text(b": call ");
-    stdio::number(call);
-    stdio::text(b" differs\n");
+    stdio::text(out, b": call ")?;
+    stdio::number(out, call)?;
+    stdio::text(out, b" differs\n")
 }
 
 // So many calls of a list.
-fn calls(l: &mut [u8], list: usize, count: usize, t: &mut [usize; 23]) {
-    let mut i = 0;
-    while i < count {
-        let agreed = call(l, t);
-        i += 1;
-        note(t, list, i, agreed);
+fn calls<R: Read, W: Write>(
+    input: &mut R,
+    out: &mut W,
+    l: &mut [u8],
+    list: usize,
+    count: usize,
+    t: &mut [usize; 23],
+) -> io::Result<()> {
+    for i in 0..count {
+        let agreed = call(input, l, t)?;
+        note(out, t, list, i + 1, agreed)?;
     }
+    Ok(())
 }
 
 // A list on a ledger of zeros as long as the slice.
-fn list(l: &mut [u8], n: usize, t: &mut [usize; 23]) {
+fn list<R: Read, W: Write>(
+    input: &mut R,
+    out: &mut W,
+    l: &mut [u8],
+    n: usize,
+    t: &mut [usize; 23],
+) -> io::Result<()> {
     let all = l.len();
     records::clear(l, 0, all);
     tally::count(t, tally::LISTS);
-    let count = stdio::read_number();
-    let used = stdio::read_number();
-    let sum = input::sum();
-    calls(l, n, count, t);
-    let whole = judge::given(l);
-    note(t, n, 0, whole && judge::ledger(l, used, sum));
+    let count = stdio::read_number(input)?;
+    let used = stdio::read_number(input)?;
+    let sum = input::sum(input)?;
+    calls(input, out, l, n, count, t)?;
+    let whole = judge::given(input, l)?;
+    note(out, t, n, 0, whole && judge::ledger(l, used, sum))
 }
 
 // The next list; false where none is left or its ledger has no room.
-fn next(space: &mut [u8], t: &mut [usize; 23]) -> bool {
-    let n = stdio::read_number();
-    let len = stdio::read_number();
+fn next<R: Read, W: Write>(
+    input: &mut R,
+    out: &mut W,
+    space: &mut [u8],
+    t: &mut [usize; 23],
+) -> io::Result<bool> {
+    let n = stdio::read_number(input)?;
+    let len = stdio::read_number(input)?;
     if n == 0 {
-        return false;
+        return Ok(false);
     }
     if len <= space.len() {
-        list(&mut space[..len], n, t);
-        return true;
+        list(input, out, &mut space[..len], n, t)?;
+        return Ok(true);
     }
-    false
+    Ok(false)
 }
 
 // All lists, at most a thousand.
-fn lists(space: &mut [u8], t: &mut [usize; 23]) {
-    let mut left: usize = 1000;
-    while 0 < left {
-        if !next(space, t) {
-            return;
+fn lists<R: Read, W: Write>(
+    input: &mut R,
+    out: &mut W,
+    space: &mut [u8],
+    t: &mut [usize; 23],
+) -> io::Result<()> {
+    for _ in 0..1000usize {
+        if !next(input, out, space, t)? {
+            break;
         }
-        left -= 1;
     }
+    Ok(())
 }
 
-fn main() {
+fn main(rt: HostRuntime) -> io::Result<()> {
+    let mut input = BufReader::new(rt.alloc(), rt.reader())?;
+    let mut out = BufWriter::new(rt.alloc(), io::writer(&rt))?;
     let mut space = stdio::room();
     let mut t = tally::empty();
-    lists(&mut space, &mut t);
-    tally::report(&t);
+    lists(&mut input, &mut out, &mut space, &mut t)?;
+    tally::report(&mut out, &t)?;
+    out.flush()
 }

@@ -1,6 +1,8 @@
 // How often each call and each answer came up. The cells: ten calls by their kinds, then steps and the nine refusals, then lists and
 // calls, then differences.
 use crate::judge::Said;
+use std::io;
+use std::io::Write;
 
 pub const LISTS: usize = 20;
 
@@ -14,7 +16,7 @@ pub fn empty() -> [usize; 23] {
 
 pub fn count(t: &mut [usize; 23], cell: usize) {
     if cell < 23 {
-        t[cell] = std::num::wrapping_add_usize(t[cell], 1);
+        t[cell] = t[cell].wrapping_add(1);
     }
 }
 
@@ -38,43 +40,43 @@ pub fn call(t: &mut [usize; 23], kind: usize, s: Said) {
     count(t, answer(s));
 }
 
-fn cell(words: &[u8], n: usize) {
-    stdio::text(words);
-    stdio::number(n);
+fn cell<W: Write>(out: &mut W, words: &[u8], n: usize) -> io::Result<()> {
+    stdio::text(out, words)?;
+    stdio::number(out, n)
 }
 
-fn calls(t: &[usize; 23]) {
-    cell(b"calls: face ", t[0]);
-    cell(b", interval ", t[1]);
-    cell(b", boundary ", t[2]);
-    cell(b", endpoint ", t[3]);
-    cell(b", forall ", t[4]);
-    cell(b", face-shift ", t[5]);
-    cell(b", interval-shift ", t[6]);
-    cell(b", face-substitute ", t[7]);
-    cell(b", interval-substitute ", t[8]);
-    cell(b", entails ", t[9]);
+fn calls<W: Write>(out: &mut W, t: &[usize; 23]) -> io::Result<()> {
+    cell(out, b"calls: face ", t[0])?;
+    cell(out, b", interval ", t[1])?;
+    cell(out, b", boundary ", t[2])?;
+    cell(out, b", endpoint ", t[3])?;
+    cell(out, b", forall ", t[4])?;
+    cell(out, b", face-shift ", t[5])?;
+    cell(out, b", interval-shift ", t[6])?;
+    cell(out, b", face-substitute ", t[7])?;
+    cell(out, b", interval-substitute ", t[8])?;
+    cell(out, b", entails ", t[9])
 }
 
-fn answers(t: &[usize; 23]) {
-    cell(b"\nanswers: a step ", t[10]);
-    cell(b", refused 1: ", t[11]);
-    cell(b", 2: ", t[12]);
-    cell(b", 3: ", t[13]);
-    cell(b", 4: ", t[14]);
-    cell(b", 5: ", t[15]);
-    cell(b", 6: ", t[16]);
-    cell(b", 7: ", t[17]);
-    cell(b", 8: ", t[18]);
-    cell(b", 9: ", t[19]);
+fn answers<W: Write>(out: &mut W, t: &[usize; 23]) -> io::Result<()> {
+    cell(out, b"\nanswers: a step ", t[10])?;
+    cell(out, b", refused 1: ", t[11])?;
+    cell(out, b", 2: ", t[12])?;
+    cell(out, b", 3: ", t[13])?;
+    cell(out, b", 4: ", t[14])?;
+    cell(out, b", 5: ", t[15])?;
+    cell(out, b", 6: ", t[16])?;
+    cell(out, b", 7: ", t[17])?;
+    cell(out, b", 8: ", t[18])?;
+    cell(out, b", 9: ", t[19])
 }
 
 // What was asked, how often which answer came, and whether all agreed.
-pub fn report(t: &[usize; 23]) {
-    calls(t);
-    answers(t);
-    cell(b"\n", t[LISTS]);
-    cell(b" lists, ", t[CALLS]);
-    cell(b" calls, differences: ", t[DIFFERENCES]);
-    stdio::text(b"\n");
+pub fn report<W: Write>(out: &mut W, t: &[usize; 23]) -> io::Result<()> {
+    calls(out, t)?;
+    answers(out, t)?;
+    cell(out, b"\n", t[LISTS])?;
+    cell(out, b" lists, ", t[CALLS])?;
+    cell(out, b" calls, differences: ", t[DIFFERENCES])?;
+    stdio::text(out, b"\n")
 }

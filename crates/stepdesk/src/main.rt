@@ -1,56 +1,70 @@
 // Says what the step desk answers of the ledgers in the files named, or of the one on standard input.
 #![tactic(auto)]
 
-ghost use Rattle.io.specs.Counts.{IsPrefixLen};
+ghost use Rattle.stdio.specs.Front.{IsPrefixLen};
 
 use desk::Verdict;
-use libc::STDIN_FILENO;
+use std::env::Env;
+use std::fs::Files;
+use std::io;
+use std::io::Write;
 use stdio::Content;
 
-fn tell(v: Verdict) {
+fn tell<W: Write>(out: &mut W, v: Verdict) -> io::Result<()> {
     match v {
-        Verdict::Ill => stdio::line(b"refused ", 1),
-        Verdict::Fails(n) => stdio::line(b"refused 10 at ", n),
-        Verdict::Passes(n) => stdio::line(b"passed ", n),
+        Verdict::Ill => stdio::line(out, b"refused ", 1),
+        Verdict::Fails(n) => stdio::line(out, b"refused 10 at ", n),
+        Verdict::Passes(n) => stdio::line(out, b"passed ", n),
     }
 }
 
 // The line for what was read into the space.
-fn judge(content: Content, space: &[u8])
+fn judge<W: Write>(out: &mut W, content: Content, space: &[u8]) -> io::Result<()>
     requires { IsPrefixLen content.len space.now }
 {
     if !content.whole {
-        return stdio::text(b"cannot be read\n");
+        return stdio::text(out, b"cannot be read\n");
     }
     let n = content.len;
-    tell(desk::step_desk(&space[..n]));
+    tell(out, desk::step_desk(&space[..n]))
 }
 
 // The line for the file that argument i names, with its name in front where it is one of several.
-fn judge_file(i: usize, several: bool, space: &mut [u8]) {
+fn judge_file<R: Env + Files, W: Write>(
+    rt: &R,
+    out: &mut W,
+    i: usize,
+    several: bool,
+    space: &mut [u8],
+) -> io::Result<()> {
     if several {
-        files::print_name(i);
-        stdio::text(b": ");
+        files::print_name(rt, i, out)?;
+        stdio::text(out, b": ")?;
     }
-    let content = files::read(i, space);
-    judge(content, space);
+    let content = files::read(rt, i, space);
+    judge(out, content, space)
 }
 
 // A line for each file; the arguments behind the program's own name are files.
-fn judge_files(count: usize, space: &mut [u8]) {
-    let mut i: usize = 1;
-    while i < count {
-        judge_file(i, 2 < count, space);
-        i += 1;
+fn judge_files<R: Env + Files, W: Write>(
+    rt: &R,
+    out: &mut W,
+    count: usize,
+    space: &mut [u8],
+) -> io::Result<()> {
+    for i in 1..count {
+        judge_file(rt, out, i, 2 < count, space)?;
     }
+    Ok(())
 }
 
-fn main() {
+fn main(rt: HostRuntime) -> io::Result<()> {
     let mut space = stdio::room();
-    let count = os::arg_count();
+    let mut out = io::writer(&rt);
+    let count = files::arg_count(&rt);
     if count < 2 {
-        let content = stdio::read_all(STDIN_FILENO, &mut space);
-        return judge(content, &space);
+        let content = stdio::read_all(&mut rt.reader(), &mut space);
+        return judge(&mut out, content, &space);
     }
-    judge_files(count, &mut space);
+    judge_files(&rt, &mut out, count, &mut space)
 }

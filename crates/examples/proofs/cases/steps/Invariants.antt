@@ -1,9 +1,0 @@
--- `steps` is safe and ends: the measure is how many steps may still come.
-use borrow.Author.Rules.{rules}
-use Rattle.examples.proofs.cases.steps.Given as goal
-
-abbrev pub invariant-loop-left : goal.invariant-loop-left
-invariant-loop-left l = Unit {0}
-
-abbrev pub decreases-loop-left : goal.decreases-loop-left
-decreases-loop-left l = l.left
