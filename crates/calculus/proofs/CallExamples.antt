@@ -10,7 +10,6 @@ use Rattle.formula.specs.declared.Sort.TheVariants.{Faces}
 use Rattle.formula.specs.Formula.{lo, hi, ff, ft, at, fand, for, i0, i1, dim}
 use Rattle.formula.specs.Operations
 use Rattle.formula.specs.Bytes
-use Rattle.calculus.specs.Judgement
 use Rattle.calculus.specs.Judgement.{Judgement, Step, same_list, same_face, same_judgement}
 use Rattle.calculus.specs.Table.{table}
 use Rattle.calculus.specs.Search

@@ -11,7 +11,6 @@ use Rattle.formula.specs.declared.Sort.TheVariants.{Faces, Intervals}
 use Rattle.formula.specs.Formula.{Face}
 use Rattle.formula.specs.Bytes.{Tree, encode, encode_face, Got, nothing, got, then, read}
 use Rattle.formula.proofs.Reading.{got-value, read-encode, encode-read}
-use Rattle.calculus.specs.Judgement
 use Rattle.calculus.specs.Judgement.{Judgement}
 use Rattle.calculus.specs.Table
 use Rattle.calculus.specs.Table.{Pred, predicate}

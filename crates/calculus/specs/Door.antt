@@ -7,7 +7,6 @@ use Rattle.formula.specs.Formula.{End, lo, hi, i0, i1}
 use Rattle.formula.specs.Operations
 use Rattle.formula.specs.Operations.{Op}
 use Rattle.formula.specs.Bytes.{Tree, read_all}
-use Rattle.calculus.specs.Judgement
 use Rattle.calculus.specs.Judgement.{Judgement, Step}
 use Rattle.calculus.specs.Record.{Field, number, index, formula, Value, field_bytes, nodes_in, bound_in, few_nodes, low_bound, ledger_bytes}
 use Rattle.calculus.specs.Parse.{read_ledger}

@@ -7,7 +7,7 @@ use Prim.Native.Nat.{ℕ, suc, ◌*◌, ◌≤◌, ◌<◌}
 use native.Mathlib.Omega.{arith}
 use lib.ListN.{length}
 use Rattle.calculus.specs.Judgement.{Step}
-use Rattle.calculus.specs.Rules.{step_at, AllBelow, Follows, pass, fail, passes, fails}
+use Rattle.calculus.specs.Rules.{step_at, Follows, pass, fail, passes, fails}
 use Rattle.calculus.specs.Parse.{read_ledger}
 use Rattle.calculus.specs.Desk.{DeskAnswer, unreadable, judged, no-ledger, on-steps, DeskGives}
 use Rattle.calculus.proofs.Records.{read-ledger}

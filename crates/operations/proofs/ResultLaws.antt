@@ -7,7 +7,7 @@ use lib.Dec.{eqb}
 use lib.ListN.{length, length-append}
 use Rattle.formula.specs.Formula.{End, lo, hi, ff, at, fand, for, Interval, i0, i1, dim, neg, meet, join, beside}
 use Rattle.formula.specs.Operations.{boundary, forall, Op, shift, subst as substitute, dim_to, itransform, ftransform, transform}
-use Rattle.formula.specs.Bytes.{Tree, encode, encode_face, Node, leaf, lit, one, two, bad, node_of, nodes, nodes_face, nodes_interval, bound, bound_face, bound_interval}
+use Rattle.formula.specs.Bytes.{Tree, encode, encode_face, Node, leaf, lit, one, two, bad, node_of, nodes_face, nodes_interval, bound_face, bound_interval}
 use Rattle.formula.specs.Answers.{pick, size_of, kind_of}
 use Rattle.passes.specs.Rewriting.{Token, plain, literal, tokens, tokens_interval, moved_to, ◌⊕◌, zero_size, plain_size, weighs, plain_weight, moved_weight, weight_of, spell, moved_bytes, image_of, AllTokens, Fielded, FieldedAt}
 use Rattle.formula.specs.declared.Sort.{Sort}

@@ -20,7 +20,7 @@ use Rattle.formula.specs.Answers.{pick, keeps}
 use Rattle.formula.proofs.Measuring.{measured_at}
 use Rattle.formula.proofs.Nodes.{made_as, tree-ind}
 use Rattle.calculus.specs.Search.{nodes_context}
-use Rattle.calculus.specs.Record.{Field, number, index, context, end, formula, Value, bound_context, allowed, fields, Values}
+use Rattle.calculus.specs.Record.{Field, number, index, context, end, formula, Value, bound_context, allowed, Values}
 use Rattle.calculus.specs.Parse.{only, take_little, read_faces, read_values, read_references}
 use Rattle.calculus.proofs.Fields.{fails, reads}
 use Rattle.kinds.specs.declared.Field.{Field as Answered}

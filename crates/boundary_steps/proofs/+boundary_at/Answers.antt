@@ -1,8 +1,4 @@
-use Prim.Native.Nat.{ℕ, ◌-◌, ◌<◌}
-use lib.ListN.{length}
-use borrow.Author.Rules.{rules}
 use mathlib.Core.Path.{sym, ◌∙◌}
-use borrow.Author.Tests.{not-true, not-false}
 use Rattle.formula.specs.declared.Sort.TheVariants.{Intervals}
 use Rattle.steps.proofs.RunLaws.{runs-led}
 use Rattle.steps.proofs.PlaceLaws.{known_at, at-inside, pending-inside, at-spans, viewed-at}

@@ -1,4 +1,3 @@
-use borrow.Author.Rules.{rules}
 use Rattle.formula.specs.declared.Sort.TheVariants.{Intervals}
 use Rattle.calculus.specs.Calls.{emit_boundary}
 use Rattle.steps.proofs.NodeLaws.{part-runs}

@@ -1,4 +1,3 @@
-use borrow.Author.Rules.{rules}
 use Rattle.steps.proofs.RunLaws.{emits-kind}
 use Rattle.boundary_steps.proofs.boundary_whole.Goals as goal
 

@@ -1,8 +1,4 @@
-use Prim.Native.Nat.{ℕ, ◌-◌, ◌<◌}
-use lib.ListN.{length}
-use borrow.Author.Rules.{rules}
 use mathlib.Core.Path.{sym, ◌∙◌, subst}
-use borrow.Author.Tests.{not-true, not-false}
 use Rattle.steps.specs.Trees.{Known, Literal}
 use Rattle.steps.proofs.RunLaws.{runs-led}
 use Rattle.steps.proofs.NodeLaws.{literal-of}

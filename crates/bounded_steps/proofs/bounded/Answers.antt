@@ -1,4 +1,3 @@
-use borrow.Author.Rules.{rules}
 use Rattle.steps.proofs.NodeLaws.{part-runs}
 use Rattle.steps.proofs.PlaceLaws.{known_at, whole-at, whole_part}
 use Rattle.bounded_steps.specs.Programs.{emit_bounded}

@@ -1,4 +1,3 @@
-use borrow.Author.Rules.{rules}
 use Rattle.bounded_steps.proofs.BelowLaws.{kind-low, kind-as}
 use Rattle.bounded_steps.proofs.bounded_kind.Goals as goal
 

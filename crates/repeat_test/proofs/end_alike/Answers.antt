@@ -1,4 +1,3 @@
-use borrow.Author.Rules.{rules}
 use native.Mathlib.Omega.{arith}
 use Rattle.calculus.proofs.Fields.{below_each}
 use Rattle.ledger.proofs.CheckLaws.{sought, sought-points}

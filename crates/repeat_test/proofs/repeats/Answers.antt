@@ -1,4 +1,3 @@
-use borrow.Author.Rules.{rules}
 use mathlib.Core.Path.{sym, ap, ◌∙◌}
 use Rattle.refusals.specs.Refusals.{done}
 use Rattle.repeat_test.proofs.TestLaws.{both_read, ill-left, ill-right}

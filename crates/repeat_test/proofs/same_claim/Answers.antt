@@ -1,4 +1,3 @@
-use borrow.Author.Rules.{rules}
 use mathlib.Core.Path.{sym, ap₂, ◌∙◌}
 use Rattle.formula.specs.Answers.{same_bytes}
 use Rattle.calculus.specs.Rules.{judgement_at}

@@ -1,6 +1,5 @@
 use Rattle.std.proofs.Common.{◌≡◌, sym, ap, arith}
 use Rattle.calculus.proofs.Rows.{rows}
-use Rattle.kinds.proofs.TableLaws.{rest-last}
 use Rattle.rows.specs.Flattening.{flat_f, flat_i, fronts, flat_faces, row_lines, line_at}
 use Rattle.rows.proofs.line_of.Goals as goal
 

@@ -1,7 +1,6 @@
 use Rattle.std.proofs.Common.{◌≡◌, arith}
 use mathlib.Core.Path.{refl}
 use Rattle.calculus.proofs.Rows.{rows}
-use Rattle.kinds.proofs.TableLaws.{rest-last}
 use Rattle.rows.specs.Flattening.{flat_f, flat_i, fronts, flat_faces, items_of, row_starts}
 use Rattle.rows.proofs.RowTable.{start-row}
 use Rattle.rows.proofs.row_start.Goals as goal

@@ -1,10 +1,8 @@
-use borrow.Author.Rules.{rules}
 use native.Mathlib.Omega.{arith}
-use Prim.Native.Nat.{ℕ, ◌-◌, ◌≤◌}
+use Prim.Native.Nat.{ℕ}
 use mathlib.Core.Path.{refl}
 use lib.ListN.{length-replicate}
-use Rattle.rows.specs.Flattening.{Inside}
-use Rattle.rows.proofs.RowTable.{Filling, filling-none, filling-more, inside-next}
+use Rattle.rows.proofs.RowTable.{filling-none, filling-more, inside-next}
 use Rattle.rows.proofs.table.Goals as goal
 
 pub loop-i-init : goal.loop-i-init

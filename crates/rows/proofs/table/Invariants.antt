@@ -1,10 +1,6 @@
-use borrow.Author.Rules.{rules}
-use native.Mathlib.Omega.{arith}
-use Prim.Native.Nat.{ℕ, ◌-◌, ◌≤◌}
-use mathlib.Core.Path.{refl}
-use lib.ListN.{length-replicate}
+use Prim.Native.Nat.{◌-◌, ◌≤◌}
 use Rattle.rows.specs.Flattening.{Inside}
-use Rattle.rows.proofs.RowTable.{Filling, filling-none, filling-more, inside-next}
+use Rattle.rows.proofs.RowTable.{Filling}
 use Rattle.rows.proofs.table.Given as goal
 
 abbrev pub invariant-loop-i : goal.invariant-loop-i

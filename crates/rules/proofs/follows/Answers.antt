@@ -1,6 +1,4 @@
-use borrow.Author.Rules.{rules}
 use native.Mathlib.Omega.{arith}
-use Prim.Native.Nat.{◌-◌}
 use Rattle.rules.proofs.Instances.{no_kind, high-kind, kind-ranges, kind-judged}
 use Rattle.rules.proofs.follows.Goals as goal
 

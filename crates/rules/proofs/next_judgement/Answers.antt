@@ -1,6 +1,4 @@
-use borrow.Author.Rules.{rules}
 use native.Mathlib.Omega.{arith}
-use Prim.Native.Nat.{◌-◌}
 use Rattle.rules.proofs.Turning.{judge-more, judge-none, judge-no, judge-yes}
 use Rattle.rules.proofs.next_judgement.Goals as goal
 

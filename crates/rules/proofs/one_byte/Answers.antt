@@ -1,6 +1,4 @@
-use borrow.Author.Rules.{rules}
 use native.Mathlib.Omega.{arith}
-use Prim.Native.Nat.{◌-◌}
 use Rattle.rules.proofs.Turning.{as-claim, byte-move, byte-stop}
 use Rattle.rules.proofs.one_byte.Goals as goal
 

@@ -1,8 +1,4 @@
-use Prim.Native.Nat.{ℕ, ◌-◌, ◌<◌}
-use lib.ListN.{length}
-use borrow.Author.Rules.{rules}
 use mathlib.Core.Path.{refl, sym, ◌∙◌}
-use borrow.Author.Tests.{not-true, not-false}
 use Rattle.calculus.specs.Calls.{transform as transform_of}
 use Rattle.steps.proofs.RunLaws.{runs-led}
 use Rattle.steps.proofs.NodeLaws.{literal-of}

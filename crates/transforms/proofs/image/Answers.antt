@@ -1,5 +1,3 @@
-use borrow.Author.Rules.{rules}
-use mathlib.Core.Path.{ap}
 use Rattle.formula.specs.declared.Sort.TheVariants.{Intervals}
 use Rattle.transforms.proofs.ImageLaws.{image-made, image-front}
 use Rattle.transforms.proofs.image.Goals as goal

@@ -1,9 +1,7 @@
-use borrow.Author.Rules.{rules}
 use native.Mathlib.Omega.{arith}
 use Prim.Native.Nat.{Ordering}
 use Prim.Native.Nat.{compare}
 use mathlib.Core.Path.{refl, sym, ◌∙◌}
-use borrow.Author.Tests.{not-true, not-false}
 use Rattle.formula.specs.declared.Sort.TheVariants.{Intervals}
 use Rattle.operations.specs.declared.Op.TheVariants.{DShift}
 use Rattle.formula.specs.Operations.{shift}

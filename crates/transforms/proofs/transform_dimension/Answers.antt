@@ -1,4 +1,3 @@
-use borrow.Author.Rules.{rules}
 use Rattle.formula.specs.declared.Sort.TheVariants.{Intervals}
 use Rattle.transforms.proofs.TransformLaws.{place-of-shift, known-subst, told_is, told-runs}
 use Rattle.transforms.proofs.transform_dimension.Goals as goal

@@ -1,4 +1,3 @@
-use borrow.Author.Rules.{rules}
 use mathlib.Core.Path.{sym, subst}
 use Rattle.calculus.specs.Calls.{emit_transform}
 use Rattle.steps.specs.Trees.{Known, Literal}

@@ -1,4 +1,3 @@
-use borrow.Author.Rules.{rules}
 use Rattle.formula.specs.declared.Sort.TheVariants.{Faces, Intervals}
 use Rattle.transforms.specs.Transforms.{op_of}
 use Rattle.transforms.proofs.TransformLaws.{sort-told, sort-runs}

@@ -1,6 +1,4 @@
-use borrow.Author.Rules.{rules}
 use mathlib.Core.Path.{sym, ◌∙◌}
-use borrow.Author.Tests.{not-true, not-false}
 use Rattle.steps.proofs.RunLaws.{runs-led}
 use Rattle.contexts.proofs.ClosingLaws.{by-member-stop, by-member-up}
 use Rattle.contexts.proofs.closings.by_member.Goals as goal

@@ -1,4 +1,3 @@
-use borrow.Author.Rules.{rules}
 use Rattle.contexts.proofs.ClosingLaws.{by-top-up}
 use Rattle.contexts.proofs.closings.by_top.Goals as goal
 

@@ -1,4 +1,3 @@
-use borrow.Author.Rules.{rules}
 use mathlib.Core.Path.{sym}
 use Rattle.steps.proofs.RunLaws.{emits-same}
 use Rattle.contexts.proofs.ClosingLaws.{cover-short, cover-bytes}

@@ -1,6 +1,4 @@
-use Prim.Native.Nat.{ℕ, ◌<◌}
 use native.Mathlib.Omega.{arith}
-use borrow.Author.Rules.{rules}
 use Rattle.contexts.proofs.ContextLaws.{context-as}
 use Rattle.contexts.proofs.LeftLaws.{offset-zero, offset-first, offset_up, prefix-short}
 use Rattle.contexts.proofs.lefts.+offset.Goals as goal

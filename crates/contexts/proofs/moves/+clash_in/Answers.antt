@@ -1,6 +1,4 @@
-use Prim.Native.Nat.{ℕ, ◌<◌}
 use native.Mathlib.Omega.{arith}
-use borrow.Author.Rules.{rules}
 use Rattle.steps.proofs.TreeLaws.{known}
 use Rattle.contexts.proofs.ContextLaws.{context-as, first_of}
 use Rattle.contexts.proofs.MoveLaws.{clash-none, clash-here, clash-there}

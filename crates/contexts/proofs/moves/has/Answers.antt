@@ -1,11 +1,7 @@
 use native.Mathlib.Omega.{arith}
 use mathlib.Core.Path.{refl, sym, ◌∙◌}
-use Prim.Native.Nat.{◌-◌}
-use Rattle.formula.specs.declared.Sort.TheVariants.{Faces}
-use Rattle.formula.specs.Answers.{tree_of}
-use Rattle.contexts.specs.Contexts.{context_of}
 use Rattle.contexts.proofs.ContextLaws.{context-short}
-use Rattle.contexts.proofs.PassLaws.{Passed, pass-start, standing-inside, pass-found, pass-turn, pass-end}
+use Rattle.contexts.proofs.PassLaws.{pass-start, standing-inside, pass-found, pass-turn, pass-end}
 use Rattle.contexts.proofs.moves.has.Goals as goal
 
 pub loop-i-init : goal.loop-i-init

@@ -1,11 +1,8 @@
-use native.Mathlib.Omega.{arith}
-use mathlib.Core.Path.{refl, sym, ◌∙◌}
 use Prim.Native.Nat.{◌-◌}
 use Rattle.formula.specs.declared.Sort.TheVariants.{Faces}
 use Rattle.formula.specs.Answers.{tree_of}
 use Rattle.contexts.specs.Contexts.{context_of}
-use Rattle.contexts.proofs.ContextLaws.{context-short}
-use Rattle.contexts.proofs.PassLaws.{Passed, pass-start, standing-inside, pass-found, pass-turn, pass-end}
+use Rattle.contexts.proofs.PassLaws.{Passed}
 use Rattle.contexts.proofs.moves.has.Given as goal
 
 abbrev pub invariant-loop-i : goal.invariant-loop-i

@@ -1,4 +1,3 @@
-use borrow.Author.Rules.{rules}
 use native.Mathlib.Omega.{arith}
 use mathlib.Core.Path.{refl}
 use Rattle.contexts.proofs.MoveLaws.{face-some, constant-free, compound-free, opposite, opposite-known, opposite-clash, opposite-free}

@@ -1,9 +1,6 @@
-use native.Mathlib.Omega.{arith}
-use mathlib.Core.Path.{◌≡◌, subst}
-use Prim.Native.Nat.{ℕ, suc, ◌-◌, ◌≤◌}
+use Prim.Native.Nat.{suc, ◌-◌, ◌≤◌}
 use Rattle.ledger.specs.Ledger.{steps_of}
 use Rattle.desk.specs.Walking.{Filled, cited}
-use Rattle.desk.proofs.ClaimLaws.{reference-sought, reference-points, reference-filled}
 use Rattle.desk.proofs.claims.claim_references.Given as goal
 
 abbrev pub invariant-loop-j : goal.invariant-loop-j

@@ -1,4 +1,3 @@
-use borrow.Author.Rules.{rules}
 use Rattle.desk.proofs.ClaimLaws.{claim-of, fill_one}
 use Rattle.desk.proofs.claims.claim_step.Goals as goal
 

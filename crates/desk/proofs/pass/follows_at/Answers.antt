@@ -1,4 +1,3 @@
-use borrow.Author.Rules.{rules}
 use mathlib.Core.Path.{refl}
 use Rattle.ledger.specs.Ledger.{steps_of}
 use Rattle.desk.specs.Walking.{cited}

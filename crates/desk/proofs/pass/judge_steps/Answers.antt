@@ -1,9 +1,7 @@
-use borrow.Author.Rules.{rules}
 use native.Mathlib.Omega.{arith}
-use Prim.Native.Nat.{ℕ, ◌-◌}
+use Prim.Native.Nat.{ℕ}
 use lib.ListN.{length-replicate}
-use borrow.Author.Tests.{not-true, not-false}
-use Rattle.desk.proofs.PassLaws.{Passing, passing-start, passing-points, passing-room, passing-on, passing-fails, passing-all}
+use Rattle.desk.proofs.PassLaws.{passing-start, passing-points, passing-room, passing-on, passing-fails, passing-all}
 use Rattle.desk.proofs.pass.judge_steps.Goals as goal
 
 pub table-table-requires : goal.table-table-requires

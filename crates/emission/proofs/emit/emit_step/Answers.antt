@@ -1,4 +1,3 @@
-use borrow.Author.Rules.{rules}
 use mathlib.Core.Path.{sym, ◌∙◌}
 use Rattle.kinds.proofs.KindLaws.{few-references}
 use Rattle.emission.proofs.EmitLaws.{emit-as, emit-no-kind}

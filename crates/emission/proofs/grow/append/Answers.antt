@@ -3,8 +3,6 @@ use borrow.Author.Rules.{rules}
 use native.Mathlib.Omega.{arith}
 use lib.ListN.{take}
 use lib.Seq.{length-take-le}
-use borrow.Kind.Array.{e_int, good_length}
-use mir.Syntax.{w64}
 use Rattle.emission.proofs.GrowLaws.{appends, keeps-all}
 use Rattle.emission.proofs.grow.append.Goals as goal
 

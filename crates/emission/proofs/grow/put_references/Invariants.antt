@@ -1,13 +1,8 @@
-use borrow.Kind.Array.{e_int, good_length}
-use mir.Syntax.{w64}
-use native.Mathlib.Omega.{arith}
-use mathlib.Core.Path.{◌≡◌, refl, ap, ◌∙◌}
-use Prim.Native.Nat.{ℕ, ◌+◌, ◌-◌, ◌*◌, ◌≤◌}
-use mathlib.Core.List.{List}
-use lib.ListN.{length, take, get_or}
-use lib.Seq.{sets, length-sets}
-use Rattle.calculus.specs.Record.{references_bytes, little_endian}
-use Rattle.emission.proofs.GrowLaws.{references-more}
+use mathlib.Core.Path.{◌≡◌}
+use Prim.Native.Nat.{◌-◌, ◌≤◌}
+use lib.ListN.{length, take}
+use lib.Seq.{sets}
+use Rattle.calculus.specs.Record.{references_bytes}
 use Rattle.emission.proofs.grow.put_references.Given as goal
 
 abbrev pub invariant-loop-j : goal.invariant-loop-j

@@ -1,4 +1,3 @@
-use borrow.Author.Rules.{rules}
 use native.Mathlib.Omega.{arith}
 use Rattle.emission.proofs.GrowLaws.{undone}
 use Rattle.emission.proofs.grow.undo.Goals as goal

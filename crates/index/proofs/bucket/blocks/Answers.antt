@@ -1,6 +1,6 @@
 use native.Mathlib.Omega.{arith}
 use mathlib.Core.Path.{◌≡◌, ap, ◌∙◌}
-use Prim.Native.Nat.{ℕ, ◌-◌, ◌≤◌, ◌<◌}
+use Prim.Native.Nat.{ℕ}
 use Rattle.index.specs.Index.{blocks_of}
 use Rattle.index.proofs.HashLaws.{blocks-next, none_yet}
 use Rattle.index.proofs.bucket.blocks.Goals as goal

@@ -1,8 +1,6 @@
-use native.Mathlib.Omega.{arith}
-use mathlib.Core.Path.{◌≡◌, ap, ◌∙◌}
-use Prim.Native.Nat.{ℕ, ◌-◌, ◌≤◌, ◌<◌}
+use mathlib.Core.Path.{◌≡◌}
+use Prim.Native.Nat.{◌-◌, ◌≤◌, ◌<◌}
 use Rattle.index.specs.Index.{blocks_of}
-use Rattle.index.proofs.HashLaws.{blocks-next, none_yet}
 use Rattle.index.proofs.bucket.blocks.Given as goal
 
 abbrev pub invariant-loop-j : goal.invariant-loop-j

@@ -1,10 +1,7 @@
-use borrow.Author.Rules.{rules}
-use native.Mathlib.Omega.{arith}
-use mathlib.Core.Path.{◌≡◌, ap, ◌∙◌}
-use Prim.Native.Nat.{ℕ, ◌-◌, ◌≤◌, ◌<◌}
+use mathlib.Core.Path.{◌≡◌}
+use Prim.Native.Nat.{◌-◌, ◌≤◌, ◌<◌}
 use lib.ListN.{length}
 use Rattle.index.specs.Index.{bytes_of}
-use Rattle.index.proofs.HashLaws.{bytes_next, none_yet}
 use Rattle.index.proofs.bucket.few.Given as goal
 
 abbrev pub invariant-loop-j : goal.invariant-loop-j

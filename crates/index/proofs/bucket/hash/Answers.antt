@@ -1,4 +1,3 @@
-use borrow.Author.Rules.{rules}
 use Rattle.index.proofs.HashLaws.{hash-long, hash-short}
 use Rattle.index.proofs.bucket.hash.Goals as goal
 

@@ -1,8 +1,7 @@
-use borrow.Author.Rules.{rules}
 use native.Mathlib.Omega.{arith}
 use mathlib.Core.Path.{◌≡◌}
 use Prim.Native.Nat.{suc, ◌-◌}
-use Rattle.index.proofs.FindLaws.{Walk, slots-inside, walk_start, walk_inside, walk-noted, walk-points, walk-less, walk_turn, none_found, one_found}
+use Rattle.index.proofs.FindLaws.{slots-inside, walk_start, walk_inside, walk-noted, walk-points, walk-less, walk_turn, none_found, one_found}
 use Rattle.index.proofs.RoomLaws.{holds-eight}
 use Rattle.index.proofs.chain.find_in.Goals as goal
 

@@ -1,4 +1,3 @@
-use borrow.Author.Rules.{rules}
 use mathlib.Core.Path.{refl}
 use Rattle.index.proofs.EnterLaws.{placed-part}
 use Rattle.index.proofs.enter.note.Goals as goal

@@ -1,8 +1,6 @@
-use borrow.Author.Rules.{rules}
 use mathlib.Core.Path.{sym, ap, ◌∙◌}
 use mathlib.Core.List.{List}
 use Prim.Native.Nat.{ℕ}
-use borrow.Author.Tests.{not-true}
 use Rattle.formula.specs.Answers.{same_bytes}
 use Rattle.calculus.specs.Rules.{step_at}
 use Rattle.ledger.specs.Ledger.{steps_of}

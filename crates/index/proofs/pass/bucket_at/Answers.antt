@@ -1,4 +1,3 @@
-use borrow.Author.Rules.{rules}
 use mathlib.Core.Path.{ap₂, ◌∙◌}
 use Rattle.index.specs.Index.{bucket_of}
 use Rattle.index.proofs.pass.bucket_at.Goals as goal

@@ -1,11 +1,10 @@
-use borrow.Author.Rules.{rules}
 use native.Mathlib.Omega.{arith}
 use mathlib.Core.Path.{ap, ◌∙◌, subst}
-use Prim.Native.Nat.{ℕ, ◌+◌, ◌-◌, ◌<◌}
+use Prim.Native.Nat.{ℕ, ◌+◌, ◌<◌}
 use lib.ListN.{length, replicate}
 use lib.Seq.{length-sets}
 use Rattle.ledger.proofs.PointLaws.{walks-points, walks-forward}
-use Rattle.index.proofs.BuildLaws.{Building, build-start, build-turn, built}
+use Rattle.index.proofs.BuildLaws.{build-start, build-turn, built}
 use Rattle.index.proofs.pass.build.Goals as goal
 
 pub overflow_add-h : goal.overflow_add-h

@@ -1,11 +1,6 @@
-use borrow.Author.Rules.{rules}
-use native.Mathlib.Omega.{arith}
-use mathlib.Core.Path.{ap, ◌∙◌, subst}
-use Prim.Native.Nat.{ℕ, ◌+◌, ◌-◌, ◌<◌}
-use lib.ListN.{length, replicate}
-use lib.Seq.{length-sets}
-use Rattle.ledger.proofs.PointLaws.{walks-points, walks-forward}
-use Rattle.index.proofs.BuildLaws.{Building, build-start, build-turn, built}
+use Prim.Native.Nat.{◌-◌}
+use lib.ListN.{length}
+use Rattle.index.proofs.BuildLaws.{Building}
 use Rattle.index.proofs.pass.build.Given as goal
 
 abbrev pub invariant-loop-at : goal.invariant-loop-at

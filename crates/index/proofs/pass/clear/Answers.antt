@@ -1,7 +1,7 @@
 use native.Mathlib.Omega.{arith}
 use mathlib.Core.Path.{◌≡◌, refl, sym, ap, ◌∙◌}
-use Prim.Native.Nat.{ℕ, ◌-◌, ◌≤◌}
-use lib.ListN.{length, length-set, replicate}
+use Prim.Native.Nat.{ℕ, ◌-◌}
+use lib.ListN.{length-set, replicate}
 use lib.Seq.{sets}
 use Rattle.records.proofs.NumberLaws.{clear_step}
 use Rattle.index.proofs.pass.clear.Goals as goal

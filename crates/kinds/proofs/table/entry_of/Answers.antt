@@ -1,4 +1,3 @@
-use borrow.Author.Rules.{rules}
 use native.Mathlib.Omega.{arith}
 use Rattle.kinds.proofs.KindLaws.{entry-law, entry-above}
 use Rattle.kinds.proofs.table.entry_of.Goals as goal

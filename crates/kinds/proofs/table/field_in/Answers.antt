@@ -1,6 +1,6 @@
-use Rattle.std.proofs.Common.{◌≡◌, sym, arith}
+use Rattle.std.proofs.Common.{◌≡◌, arith}
 use Rattle.kinds.specs.Kinds.{field_at}
-use Rattle.kinds.proofs.TableLaws.{rest-last, field_row}
+use Rattle.kinds.proofs.TableLaws.{field_row}
 use Rattle.kinds.proofs.table.field_in.Goals as goal
 
 pub returns-in-0 : goal.returns-in-0

@@ -1,4 +1,3 @@
-use borrow.Author.Rules.{rules}
 use mathlib.Core.Path.{◌∙◌}
 use Rattle.kinds.proofs.TableLaws.{field-four}
 use Rattle.kinds.proofs.table.field_of.Goals as goal

@@ -1,13 +1,8 @@
 -- The name and the bytes agree as far as they were compared, so what is left decides.
-use mathlib.Core.Path.{◌≡◌, refl, sym, ap, ◌∙◌}
-use mathlib.Core.Bool.{Bool, ◌&&◌}
-use Prim.Native.Nat.{◌+◌, ◌≤◌, ◌-◌}
-use native.Mathlib.Omega.{arith}
-use borrow.Author.Rules.{rules}
-use borrow.Author.Tests.{eq-eqb, ne_eqb}
+use mathlib.Core.Path.{◌≡◌}
+use Prim.Native.Nat.{◌≤◌, ◌-◌}
 use lib.ListN.{length, drop}
 use Rattle.formula.specs.Answers.{same_bytes}
-use Rattle.formula.proofs.ByteLaws.{same-lengths, same_at, same_ends}
 use Rattle.kinds.specs.Kinds.{name_bytes}
 use Rattle.kinds.proofs.table.is_name.Given as goal
 

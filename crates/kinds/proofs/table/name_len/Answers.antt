@@ -1,6 +1,5 @@
 use mathlib.Core.Path.{sym, ap}
 use native.Mathlib.Omega.{arith}
-use borrow.Author.Rules.{rules}
 use lib.ListN.{length}
 use Rattle.kinds.proofs.TableLaws.{name-next, no_name}
 use Rattle.kinds.proofs.table.name_len.Goals as goal

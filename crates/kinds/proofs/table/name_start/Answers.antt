@@ -1,4 +1,3 @@
-use borrow.Author.Rules.{rules}
 use Rattle.kinds.proofs.KindLaws.{start-law}
 use Rattle.kinds.proofs.table.name_start.Goals as goal
 

@@ -1,7 +1,6 @@
 use Rattle.std.proofs.Common.{◌≡◌, sym, ap, arith}
 use Rattle.calculus.specs.Table.{table, text_bytes}
 use Rattle.kinds.specs.Kinds.{names_of, name_start, row_of}
-use Rattle.kinds.proofs.TableLaws.{rest-last}
 use Rattle.kinds.proofs.table.row_of.Goals as goal
 
 pub returns-in-0 : goal.returns-in-0

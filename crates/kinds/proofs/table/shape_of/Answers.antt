@@ -3,7 +3,6 @@ use mathlib.Core.Path.{sym, ap}
 use Rattle.calculus.specs.Table.{table}
 use Rattle.kinds.specs.Kinds.{packed, shape_of}
 use Rattle.kinds.proofs.KindLaws.{shape-above}
-use Rattle.kinds.proofs.TableLaws.{rest-low}
 use Rattle.kinds.proofs.table.shape_of.Goals as goal
 
 pub returns-in-0 : goal.returns-in-0

@@ -1,4 +1,3 @@
-use borrow.Author.Rules.{rules}
 use native.Mathlib.Omega.{arith}
 use Rattle.ledger.proofs.PointLaws.{inside, points-operands}
 use Rattle.ledger.proofs.Cursor.operands.Goals as goal

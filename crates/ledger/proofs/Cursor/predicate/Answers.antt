@@ -1,4 +1,3 @@
-use borrow.Author.Rules.{rules}
 use mathlib.Core.Path.{sym, ap, ◌∙◌}
 use Rattle.ledger.proofs.PointLaws.{points-entry}
 use Rattle.calculus.specs.Table.{entry_of}

@@ -1,11 +1,7 @@
 -- The records that are left give the same answer.
 use native.Mathlib.Omega.{arith}
-use mathlib.Core.Path.{◌≡◌, sym, ◌∙◌}
-use Prim.Native.Nat.{◌-◌, ◌≤◌}
-use lib.ListN.{length}
-use Rattle.ledger.specs.Checks.{records_in}
-use Rattle.ledger.proofs.CheckLaws.{left, left-all, left-none, left-short, left-long, left-record}
-use borrow.Author.Tests.{not-true, not-false}
+use mathlib.Core.Path.{sym, ◌∙◌}
+use Rattle.ledger.proofs.CheckLaws.{left-all, left-none, left-short, left-long, left-record}
 use Rattle.ledger.proofs.check.count_records.Goals as goal
 
 pub loop-at-init : goal.loop-at-init

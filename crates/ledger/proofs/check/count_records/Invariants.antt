@@ -1,11 +1,9 @@
 -- The records that are left give the same answer.
-use native.Mathlib.Omega.{arith}
-use mathlib.Core.Path.{◌≡◌, sym, ◌∙◌}
+use mathlib.Core.Path.{◌≡◌}
 use Prim.Native.Nat.{◌-◌, ◌≤◌}
 use lib.ListN.{length}
 use Rattle.ledger.specs.Checks.{records_in}
-use Rattle.ledger.proofs.CheckLaws.{left, left-all, left-none, left-short, left-long, left-record}
-use borrow.Author.Tests.{not-true, not-false}
+use Rattle.ledger.proofs.CheckLaws.{left}
 use Rattle.ledger.proofs.check.count_records.Given as goal
 
 abbrev pub invariant-loop-at : goal.invariant-loop-at

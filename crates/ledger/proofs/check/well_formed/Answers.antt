@@ -1,7 +1,5 @@
-use borrow.Author.Rules.{rules}
 use mathlib.Core.Path.{sym, ◌∙◌}
 use native.Mathlib.Omega.{arith}
-use borrow.Author.Tests.{not-true, not-false}
 use Rattle.ledger.proofs.CheckLaws.{ledger-short, ledger-big, ledger-long, ledger-rest}
 use Rattle.ledger.proofs.check.well_formed.Goals as goal
 

@@ -1,4 +1,3 @@
-use borrow.Author.Rules.{rules}
 use Rattle.ledger.proofs.NotingLaws.{walk_start}
 use Rattle.ledger.proofs.places.find_step.Goals as goal
 

@@ -1,4 +1,3 @@
-use borrow.Author.Rules.{rules}
 use Rattle.ledger.proofs.NotingLaws.{note-none, note-place}
 use Rattle.ledger.proofs.places.note.Goals as goal
 

@@ -1,8 +1,7 @@
 use native.Mathlib.Omega.{arith}
 use mathlib.Core.Path.{◌≡◌, ap, ◌∙◌}
-use Prim.Native.Nat.{◌-◌, ◌≤◌}
 use Rattle.ledger.specs.Ledger.{steps_of, place_of, Points}
-use Rattle.ledger.proofs.PointLaws.{Walks, walks_next}
+use Rattle.ledger.proofs.PointLaws.{walks_next}
 use Rattle.ledger.proofs.steps.walk_to.Goals as goal
 
 pub loop-step-init : goal.loop-step-init

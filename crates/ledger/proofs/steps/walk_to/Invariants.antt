@@ -1,8 +1,5 @@
-use native.Mathlib.Omega.{arith}
-use mathlib.Core.Path.{◌≡◌, ap, ◌∙◌}
 use Prim.Native.Nat.{◌-◌, ◌≤◌}
-use Rattle.ledger.specs.Ledger.{steps_of, place_of, Points}
-use Rattle.ledger.proofs.PointLaws.{Walks, walks_next}
+use Rattle.ledger.proofs.PointLaws.{Walks}
 use Rattle.ledger.proofs.steps.walk_to.Given as goal
 
 abbrev pub invariant-loop-step : goal.invariant-loop-step

@@ -1,5 +1,3 @@
-use borrow.Author.Rules.{rules}
-use mathlib.Core.Path.{sym, ap, ◌∙◌}
 use native.Mathlib.Omega.{arith}
 use Rattle.operations.proofs.AnswerLaws.{both-refused, both-short, both-done, boundary-sided}
 use Rattle.operations.proofs.results.boundary.Goals as goal

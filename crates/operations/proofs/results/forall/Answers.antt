@@ -1,5 +1,3 @@
-use borrow.Author.Rules.{rules}
-use mathlib.Core.Path.{sym, ap, ◌∙◌}
 use Rattle.formula.specs.declared.Sort.TheVariants.{Faces}
 use Rattle.operations.specs.Results.{foralled}
 use Rattle.passes.proofs.PassLaws.{wrote_as}

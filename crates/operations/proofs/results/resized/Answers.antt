@@ -1,4 +1,3 @@
-use borrow.Author.Rules.{rules}
 use mathlib.Core.Path.{sym, ap, ◌∙◌}
 use Rattle.formula.specs.Answers.{operand}
 use Rattle.operations.specs.Fitting.{resized_by}

@@ -1,4 +1,3 @@
-use borrow.Author.Rules.{rules}
 use mathlib.Core.Path.{sym, ap, ◌∙◌}
 use Rattle.operations.specs.Fitting.{beside_refused}
 use Rattle.operations.proofs.AnswerLaws.{hit-fits, hit-refused, hit-small, subst-resized, subst-refused}

@@ -1,5 +1,3 @@
-use borrow.Author.Rules.{rules}
-use mathlib.Core.Path.{sym, ap, ◌∙◌}
 use lib.ListN.{length}
 use Rattle.operations.specs.Results.{transformed}
 use Rattle.formula.proofs.Operands.{sized-fits, sized-refused}

@@ -1,12 +1,9 @@
-use borrow.Author.Rules.{rules}
-use Prim.Native.Nat.{◌-◌}
 use native.Mathlib.Omega.{arith}
-use lib.ListN.{length}
 use Rattle.passes.proofs.TokenLaws.{stepped-on}
-use Rattle.passes.proofs.PassLaws.{Rewriting, rewriting-start, rewriting-length, rewriting-turn, rewriting-room, rewriting-more, rewriting-end}
+use Rattle.passes.proofs.PassLaws.{rewriting-start, rewriting-length, rewriting-turn, rewriting-room, rewriting-more, rewriting-end}
 use Rattle.passes.proofs.rewriting.rewrite.Goals as goal
+
 -- The bytes so far, with what the tokens to come become, are the result.
-use Rattle.passes.proofs.rewriting.rewrite.Statement.{statement}
 
 pub loop-p-init : goal.loop-p-init
 loop-p-init c = let a = c.args in rewriting-start a.sort a.rule a.zero.now a.one.now a.s.now a.out.now c.requires _ c.start-p.ensures.0 c.start-p.ensures.1

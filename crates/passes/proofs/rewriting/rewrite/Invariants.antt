@@ -1,9 +1,6 @@
-use borrow.Author.Rules.{rules}
 use Prim.Native.Nat.{◌-◌}
-use native.Mathlib.Omega.{arith}
 use lib.ListN.{length}
-use Rattle.passes.proofs.TokenLaws.{stepped-on}
-use Rattle.passes.proofs.PassLaws.{Rewriting, rewriting-start, rewriting-length, rewriting-turn, rewriting-room, rewriting-more, rewriting-end}
+use Rattle.passes.proofs.PassLaws.{Rewriting}
 use Rattle.passes.proofs.rewriting.rewrite.Given as goal
 
 abbrev pub invariant-loop-p : goal.invariant-loop-p

@@ -1,13 +1,12 @@
-use borrow.Author.Rules.{rules}
-use Prim.Native.Nat.{ℕ, ◌-◌}
+use Prim.Native.Nat.{ℕ}
 use native.Mathlib.Omega.{arith}
 use mathlib.Core.Path.{refl}
-use lib.ListN.{length, replicate, length-replicate}
+use lib.ListN.{replicate, length-replicate}
 use Rattle.passes.proofs.TokenLaws.{stepped-on}
-use Rattle.passes.proofs.SideLaws.{side_goal, Siding, siding-start, siding-length, siding-few, siding-turn, siding-room, siding-more, siding-end, bits-zeros}
+use Rattle.passes.proofs.SideLaws.{siding-start, siding-length, siding-few, siding-turn, siding-room, siding-more, siding-end, bits-zeros}
 use Rattle.passes.proofs.sides.side.Goals as goal
+
 -- The same with a stack of the ends of the expressions to come.
-use Rattle.passes.proofs.sides.side.Statement.{statement}
 
 pub loop-p-init : goal.loop-p-init
 loop-p-init c = let a = c.args in siding-start a.s.now a.out.now (replicate 1024 0) a.e c.requires (length-replicate {A = ℕ} 1024 0) (bits-zeros 1024) _ c.start-p.ensures.0 c.start-p.ensures.1

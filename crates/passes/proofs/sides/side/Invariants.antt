@@ -1,10 +1,6 @@
-use borrow.Author.Rules.{rules}
-use Prim.Native.Nat.{ℕ, ◌-◌}
-use native.Mathlib.Omega.{arith}
-use mathlib.Core.Path.{refl}
-use lib.ListN.{length, replicate, length-replicate}
-use Rattle.passes.proofs.TokenLaws.{stepped-on}
-use Rattle.passes.proofs.SideLaws.{side_goal, Siding, siding-start, siding-length, siding-few, siding-turn, siding-room, siding-more, siding-end, bits-zeros}
+use Prim.Native.Nat.{◌-◌}
+use lib.ListN.{length}
+use Rattle.passes.proofs.SideLaws.{side_goal, Siding}
 use Rattle.passes.proofs.sides.side.Given as goal
 
 abbrev pub invariant-loop-p : goal.invariant-loop-p

@@ -1,4 +1,3 @@
-use borrow.Author.Rules.{rules}
 use mathlib.Core.Path.{sym}
 use Rattle.passes.proofs.PassLaws.{down-below, down-hit, down-above}
 use Rattle.passes.proofs.weighing.lowered.Goals as goal

@@ -1,4 +1,3 @@
-use borrow.Author.Rules.{rules}
 use mathlib.Core.Path.{sym, ap, ◌∙◌}
 use Rattle.passes.specs.Rewriting.{moved_to}
 use Rattle.passes.specs.declared.Rule.{Rule}

@@ -1,4 +1,3 @@
-use borrow.Author.Rules.{rules}
 use mathlib.Core.Path.{sym, ap}
 use Rattle.passes.specs.Stepping.{place_by}
 use Rattle.passes.proofs.weighing.place_by.Goals as goal

@@ -1,4 +1,3 @@
-use borrow.Author.Rules.{rules}
 use mathlib.Core.Path.{sym}
 use Rattle.passes.proofs.PassLaws.{up-below, up_from}
 use Rattle.passes.proofs.weighing.raised.Goals as goal

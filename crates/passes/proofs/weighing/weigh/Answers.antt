@@ -1,13 +1,10 @@
-use borrow.Author.Rules.{rules}
-use Prim.Native.Nat.{◌-◌}
 use native.Mathlib.Omega.{arith}
 use mathlib.Core.Path.{refl}
-use lib.ListN.{length}
 use Rattle.passes.proofs.TokenLaws.{stepped-on}
-use Rattle.passes.proofs.PassLaws.{Summed, summed-start, summed_turn, summed-small, summed-more, summed-end}
+use Rattle.passes.proofs.PassLaws.{summed-start, summed_turn, summed-small, summed-more, summed-end}
 use Rattle.passes.proofs.weighing.weigh.Goals as goal
+
 -- The sum so far, with what the tokens to come weigh, is the sum of all.
-use Rattle.passes.proofs.weighing.weigh.Statement.{statement}
 
 pub loop-p-init : goal.loop-p-init
 loop-p-init c = let a = c.args in summed-start a.sort a.rule a.hit a.s.now c.requires.0 _ c.start-p.ensures.0 c.start-p.ensures.1

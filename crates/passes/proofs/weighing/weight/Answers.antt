@@ -1,4 +1,3 @@
-use borrow.Author.Rules.{rules}
 use mathlib.Core.Path.{sym, ap, ◌∙◌, subst}
 use Rattle.passes.specs.Stepping.{DimOver, weight_over}
 use Rattle.passes.proofs.weighing.weight.Goals as goal

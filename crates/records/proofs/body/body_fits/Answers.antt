@@ -1,4 +1,3 @@
-use borrow.Author.Rules.{rules}
 use mathlib.Core.Path.{sym, ◌∙◌}
 use Rattle.records.proofs.BodyLaws.{body-short, body-none, body-some}
 use Rattle.records.proofs.body.body_fits.Goals as goal

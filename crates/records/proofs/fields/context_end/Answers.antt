@@ -1,7 +1,6 @@
 use mathlib.Core.Path.{sym, ap, ◌∙◌}
 use Prim.Native.Nat.{◌+◌}
 use native.Mathlib.Omega.{arith}
-use borrow.Author.Rules.{rules}
 use Rattle.records.specs.Places.{faces_end}
 use Rattle.records.proofs.FieldLaws.{context-short, context-in}
 use Rattle.records.proofs.fields.context_end.Goals as goal

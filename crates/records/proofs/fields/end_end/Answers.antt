@@ -1,6 +1,5 @@
 use mathlib.Core.Path.{refl, sym, ap, ◌∙◌}
 use native.Mathlib.Omega.{arith}
-use borrow.Author.Rules.{rules}
 use borrow.Author.Tests.{eq-eqb, ne_eqb}
 use Rattle.formula.specs.declared.Sort.TheVariants.{Intervals}
 use Rattle.records.proofs.PlaceLaws.{size_fits}

@@ -1,14 +1,10 @@
 use Rattle.records.proofs.fields.faces_end.Goals.{then-bound-z, else-bound-z}
 -- The faces that are left, behind those counted, end where the whole context does.
 use mathlib.Core.Path.{◌≡◌, sym, ap, ◌∙◌}
-use mathlib.Core.Logic.{⊎_elim}
-use Prim.Native.Nat.{◌≤◌, max, ℕ, ◌+◌, ◌-◌}
+use Prim.Native.Nat.{max, ℕ, ◌+◌, ◌-◌}
 use native.Mathlib.Omega.{arith}
-use borrow.Author.Rules.{rules}
-use lib.ListN.{length}
 use Rattle.formula.specs.declared.Sort.TheVariants.{Faces}
 use Rattle.formula.specs.declared.Size.{Size}
-use Rattle.records.specs.Places.{faces_end}
 use Rattle.records.proofs.PlaceLaws.{size_fits}
 use Rattle.records.proofs.FieldLaws.{faces_from, faces-all, faces-turn, faces-none}
 use Rattle.formula.proofs.Measuring.{measured_at-as}

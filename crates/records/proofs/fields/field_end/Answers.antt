@@ -1,4 +1,3 @@
-use borrow.Author.Rules.{rules}
 use mathlib.Core.Path.{refl, ◌∙◌}
 use Rattle.records.proofs.FieldLaws.{number-255, index-254, field_told}
 use Rattle.records.proofs.fields.field_end.Goals as goal

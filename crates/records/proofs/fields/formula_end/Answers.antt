@@ -1,6 +1,5 @@
 use mathlib.Core.Path.{sym, ap, ◌∙◌}
 use native.Mathlib.Omega.{arith}
-use borrow.Author.Rules.{rules}
 use Rattle.records.proofs.PlaceLaws.{size_fits}
 use Rattle.records.proofs.FieldLaws.{formula-law, formula_to, formula-as}
 use Rattle.formula.proofs.Measuring.{measured_at-as}

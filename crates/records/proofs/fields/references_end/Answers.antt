@@ -1,10 +1,6 @@
 -- The references that are left end where all of them do.
-use mathlib.Core.Path.{◌≡◌, refl, sym, ◌∙◌}
-use Prim.Native.Nat.{◌≤◌}
+use mathlib.Core.Path.{refl, sym, ◌∙◌}
 use native.Mathlib.Omega.{arith}
-use lib.ListN.{length, drop}
-use Rattle.calculus.specs.Parse.{read_references}
-use Rattle.records.specs.Places.{ended}
 use Rattle.records.proofs.FieldLaws.{references-short, references-late, references-turn, references-none}
 use Rattle.records.proofs.fields.references_end.Goals as goal
 

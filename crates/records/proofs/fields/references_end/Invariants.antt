@@ -1,11 +1,9 @@
 -- The references that are left end where all of them do.
-use mathlib.Core.Path.{◌≡◌, refl, sym, ◌∙◌}
+use mathlib.Core.Path.{◌≡◌}
 use Prim.Native.Nat.{◌≤◌}
-use native.Mathlib.Omega.{arith}
 use lib.ListN.{length, drop}
 use Rattle.calculus.specs.Parse.{read_references}
 use Rattle.records.specs.Places.{ended}
-use Rattle.records.proofs.FieldLaws.{references-short, references-late, references-turn, references-none}
 use Rattle.records.proofs.fields.references_end.Given as goal
 
 abbrev pub invariant-loop-left : goal.invariant-loop-left

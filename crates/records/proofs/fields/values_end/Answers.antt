@@ -1,7 +1,6 @@
 use mathlib.Core.Path.{sym, ◌∙◌}
 use native.Mathlib.Omega.{arith}
-use borrow.Author.Rules.{rules}
-use Rattle.records.proofs.FieldLaws.{Left, left-start, left-ill, left-on, left-none}
+use Rattle.records.proofs.FieldLaws.{left-start, left-ill, left-on, left-none}
 use Rattle.records.proofs.fields.values_end.Goals as goal
 
 pub loop-left-init : goal.loop-left-init

@@ -1,7 +1,4 @@
-use mathlib.Core.Path.{sym, ◌∙◌}
-use native.Mathlib.Omega.{arith}
-use borrow.Author.Rules.{rules}
-use Rattle.records.proofs.FieldLaws.{Left, left-start, left-ill, left-on, left-none}
+use Rattle.records.proofs.FieldLaws.{Left}
 use Rattle.records.proofs.fields.values_end.Given as goal
 
 abbrev pub invariant-loop-left : goal.invariant-loop-left

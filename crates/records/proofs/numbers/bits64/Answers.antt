@@ -1,4 +1,3 @@
-use borrow.Author.Rules.{rules}
 use lib.Bits.{bit_or}
 use Rattle.records.proofs.NumberLaws.{both_zero}
 use Rattle.records.proofs.numbers.bits64.Goals as goal

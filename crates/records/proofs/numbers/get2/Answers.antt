@@ -1,4 +1,3 @@
-use borrow.Author.Rules.{rules}
 use Rattle.calculus.proofs.Fields.{below_each}
 use native.Mathlib.Omega.{arith}
 use mathlib.Core.Path.{ap₂, ◌∙◌}

@@ -1,4 +1,3 @@
-use borrow.Author.Tests.{not-true, not-false}
 use Rattle.replies.proofs.GateLaws.{over-nodes, over-number, over-bound, all-kept}
 use Rattle.replies.proofs.door.limits.Goals as goal
 

@@ -1,4 +1,3 @@
-use borrow.Author.Rules.{rules}
 use mathlib.Core.Path.{ap, ◌∙◌}
 use Rattle.calculus.specs.Parse.{read_ledger}
 use Rattle.replies.specs.Asking.{ledger_gate}

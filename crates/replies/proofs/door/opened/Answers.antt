@@ -1,5 +1,3 @@
-use borrow.Author.Rules.{rules}
-use mathlib.Core.Path.{sym, ◌∙◌}
 use Rattle.replies.proofs.GateLaws.{opened-by}
 use Rattle.replies.proofs.door.opened.Goals as goal
 

@@ -1,4 +1,3 @@
-use borrow.Author.Rules.{rules}
 use mathlib.Core.Path.{sym, ◌∙◌}
 use Rattle.replies.proofs.GateLaws.{operand-by}
 use Rattle.formula.proofs.Measuring.{measured-as}

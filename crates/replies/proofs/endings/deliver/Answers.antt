@@ -1,4 +1,3 @@
-use borrow.Author.Rules.{rules}
 use mathlib.Core.Path.{sym, ap, ◌∙◌}
 use Rattle.replies.specs.Ending.{out_by}
 use Rattle.replies.proofs.ReplyLaws.{set_front}

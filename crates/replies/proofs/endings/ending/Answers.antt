@@ -1,4 +1,3 @@
-use borrow.Author.Rules.{rules}
 use Rattle.replies.proofs.ReplyLaws.{ends-done, ends-below, ends-implied, ends-full}
 use Rattle.replies.proofs.endings.ending.Goals as goal
 

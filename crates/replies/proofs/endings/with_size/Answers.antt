@@ -1,4 +1,3 @@
-use borrow.Author.Rules.{rules}
 use mathlib.Core.Path.{sym, ap}
 use Rattle.replies.specs.Ending.{made_by}
 use Rattle.replies.proofs.endings.with_size.Goals as goal

@@ -1,5 +1,4 @@
 use native.Mathlib.Omega.{arith}
-use Prim.Native.Nat.{◌-◌}
 use Rattle.rules.proofs.Moving.{end-face, end-interval, end-faces}
 use Rattle.rules.proofs.reach.end_of.Goals as goal
 

@@ -1,6 +1,4 @@
-use borrow.Author.Rules.{rules}
 use native.Mathlib.Omega.{arith}
-use Prim.Native.Nat.{◌-◌}
 use Rattle.rules.proofs.Moving.{formula-at, formula-nowhere}
 use Rattle.rules.proofs.reach.formula_end.Goals as goal
 

@@ -1,5 +1,3 @@
-use borrow.Author.Rules.{rules}
-use Prim.Native.Nat.{◌-◌}
 use Rattle.rules.proofs.Binding.{free-number, compare-number}
 use Rattle.rules.proofs.slots.bind_number.Goals as goal
 

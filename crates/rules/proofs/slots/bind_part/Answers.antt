@@ -1,6 +1,4 @@
-use borrow.Author.Rules.{rules}
 use native.Mathlib.Omega.{arith}
-use Prim.Native.Nat.{◌-◌}
 use Rattle.rules.proofs.Binding.{free_part, bound-range, said-part}
 use Rattle.rules.proofs.slots.bind_part.Goals as goal
 

@@ -1,6 +1,4 @@
-use borrow.Author.Rules.{rules}
 use native.Mathlib.Omega.{arith}
-use Prim.Native.Nat.{◌-◌}
 use Rattle.rules.proofs.Moving.{byte-none, byte-no, byte-yes}
 use Rattle.rules.proofs.tokens.byte_token.Goals as goal
 

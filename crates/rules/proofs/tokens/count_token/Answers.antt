@@ -1,6 +1,4 @@
-use borrow.Author.Rules.{rules}
 use native.Mathlib.Omega.{arith}
-use Prim.Native.Nat.{◌-◌}
 use Rattle.rules.proofs.Moving.{count_none, count_low, count_yes}
 use Rattle.rules.proofs.tokens.count_token.Goals as goal
 

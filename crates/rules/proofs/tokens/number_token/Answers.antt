@@ -1,7 +1,5 @@
-use borrow.Author.Rules.{rules}
 use mathlib.Core.Path.{refl}
 use native.Mathlib.Omega.{arith}
-use Prim.Native.Nat.{◌-◌}
 use Rattle.rules.proofs.Moving.{number-none, number-low, number-yes, number-no}
 use Rattle.rules.proofs.tokens.number_token.Goals as goal
 

@@ -1,5 +1,4 @@
 use native.Mathlib.Omega.{arith}
-use Prim.Native.Nat.{◌-◌}
 use Rattle.rules.specs.declared.tokens.Next.TheVariants.{Move, Stop}
 use Rattle.rules.proofs.Moving.{as_byte, as_number, as-above, as-slot, as-front, as-done, as-pad, done-no, done-yes, pad-yes}
 use Rattle.rules.proofs.tokens.one_token.Goals as goal

@@ -1,6 +1,4 @@
-use borrow.Author.Rules.{rules}
 use native.Mathlib.Omega.{arith}
-use Prim.Native.Nat.{◌-◌}
 use mathlib.Core.Path.{subst}
 use Rattle.rules.specs.Matching.{Ends, Thing}
 use Rattle.rules.proofs.Moving.{slot-yes, slot-no, slot-none}

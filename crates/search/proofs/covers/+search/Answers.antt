@@ -1,9 +1,5 @@
-use Prim.Native.Nat.{ℕ, ◌<◌, ◌+◌, ◌-◌, ◌*◌}
 use native.Mathlib.Omega.{arith}
-use borrow.Author.Rules.{rules}
-use borrow.Author.Tests.{not-true, not-false}
 use mathlib.Core.Path.{refl, sym, ◌∙◌}
-use lib.ListN.{length}
 use lib.Seq.{length-take-le}
 use Rattle.calculus.specs.Rules
 use Rattle.calculus.specs.Emit.{not-implied}

@@ -1,4 +1,3 @@
-use borrow.Author.Rules.{rules}
 use mathlib.Core.Path.{refl}
 use Rattle.steps.proofs.TreeLaws.{known}
 use Rattle.contexts.proofs.MoveLaws.{face-some}

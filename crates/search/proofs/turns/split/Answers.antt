@@ -1,4 +1,3 @@
-use borrow.Author.Rules.{rules}
 use Rattle.contexts.proofs.LeftLaws.{at_of}
 use Rattle.contexts.proofs.MoveLaws.{face-some}
 use Rattle.search.proofs.TurnLaws.{and-left-turn, or-left-turn, and-right-turn, or-right-turn, stuck-turn}

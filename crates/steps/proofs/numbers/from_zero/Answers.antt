@@ -1,6 +1,4 @@
-use borrow.Author.Rules.{rules}
 use mathlib.Core.Path.{ap₂}
-use borrow.Author.Tests.{not-true, not-false}
 use mathlib.Core.List.{List, ◌++◌}
 use Prim.Native.Nat.{ℕ}
 use Rattle.steps.proofs.RunLaws.{emits-same}

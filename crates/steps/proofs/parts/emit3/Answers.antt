@@ -1,4 +1,3 @@
-use borrow.Author.Rules.{rules}
 use mathlib.Core.Path.{refl}
 use Rattle.steps.proofs.RunLaws.{emits-same}
 use Rattle.steps.proofs.PartLaws.{three-parts}

@@ -1,4 +1,3 @@
-use borrow.Author.Rules.{rules}
 use Rattle.syntax.proofs.AnswerLaws.{fits_kept, fits-counted, refused-counted}
 use mathlib.Core.Path.{◌∙◌}
 use Rattle.syntax.proofs.answers.count.Goals as goal

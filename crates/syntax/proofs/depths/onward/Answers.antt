@@ -1,4 +1,3 @@
-use borrow.Author.Rules.{rules}
 use native.Mathlib.Omega.{arith}
 use Rattle.syntax.proofs.WordLaws.{above_low, onward-back, onward-one, onward-two}
 use Rattle.passes.specs.Stepping.{kind_over}

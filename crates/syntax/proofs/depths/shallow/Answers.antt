@@ -1,9 +1,6 @@
-use Prim.Native.Nat.{◌-◌}
-use lib.ListN.{length}
-use borrow.Author.Rules.{rules}
 use native.Mathlib.Omega.{arith}
 use Rattle.passes.proofs.TokenLaws.{stepped-on}
-use Rattle.syntax.proofs.DepthLaws.{Deepening, deepening-start, deepening-above, deepening-turn, deepening-more, deepening-over, deepening-end}
+use Rattle.syntax.proofs.DepthLaws.{deepening-start, deepening-above, deepening-turn, deepening-more, deepening-over, deepening-end}
 use Rattle.syntax.proofs.depths.shallow.Goals as goal
 
 pub loop-p-init : goal.loop-p-init

@@ -1,9 +1,6 @@
 use Prim.Native.Nat.{◌-◌}
 use lib.ListN.{length}
-use borrow.Author.Rules.{rules}
-use native.Mathlib.Omega.{arith}
-use Rattle.passes.proofs.TokenLaws.{stepped-on}
-use Rattle.syntax.proofs.DepthLaws.{Deepening, deepening-start, deepening-above, deepening-turn, deepening-more, deepening-over, deepening-end}
+use Rattle.syntax.proofs.DepthLaws.{Deepening}
 use Rattle.syntax.proofs.depths.shallow.Given as goal
 
 abbrev pub invariant-loop-p : goal.invariant-loop-p
