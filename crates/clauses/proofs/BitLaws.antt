@@ -148,11 +148,11 @@ pub halved : (n j : ℕ) → n / 2 / 2 ^ j ≡ n / 2 ^ suc j
 halved n j = rw one-add at (shr-shr n 1 j)
 
 -- The bit at a place.
-pub get_d_bits : (k n j : ℕ) → j < k → get_or (bits_of k n) j false ≡ positive (n / 2 ^ j % 2)
+pub get_or-bits : (k n j : ℕ) → j < k → get_or (bits_of k n) j false ≡ positive (n / 2 ^ j % 2)
 unfolding bits_of
-get_d_bits zero n j h = absurd (omega arith)
-get_d_bits (suc k) n zero h = ap (λ (x : ℕ). positive (x % 2)) (sym (div-one n))
-get_d_bits (suc k) n (suc j) h = get_d_bits k (n / 2) j (omega arith) ∙ ap (λ (x : ℕ). positive (x % 2)) (halved n j)
+get_or-bits zero n j h = absurd (omega arith)
+get_or-bits (suc k) n zero h = ap (λ (x : ℕ). positive (x % 2)) (sym (div-one n))
+get_or-bits (suc k) n (suc j) h = get_or-bits k (n / 2) j (omega arith) ∙ ap (λ (x : ℕ). positive (x % 2)) (halved n j)
 
 -- One digit more.
 pub set-bits : (k n j : ℕ) → j < k → bits_of k (bit_or n (2 ^ j)) ≡ set (bits_of k n) j true

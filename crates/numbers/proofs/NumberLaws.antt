@@ -4,7 +4,6 @@ use mathlib.Core.Bool.{not}
 use Prim.Native.Nat.{ℕ, zero, suc, ◌+◌, ◌*◌}
 use lib.Dec.{eqb, eqb-suc-zero}
 use Rattle.formula.specs.declared.Size.{Size}
-use Rattle.calculus.specs.Emit.{not-below, not-implied}
 use Rattle.refusals.specs.declared.Refusal.{Refusal}
 use Rattle.calculus.specs.Door.{refused}
 use Rattle.replies.specs.declared.Called.{Called}

@@ -1,4 +1,3 @@
-use borrow.Author.Rules.{rules}
 use Rattle.numbers.proofs.NumberLaws.{answer-refused}
 use Rattle.numbers.proofs.answer.Goals as goal
 

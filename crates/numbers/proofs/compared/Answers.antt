@@ -1,4 +1,3 @@
-use borrow.Author.Rules.{rules}
 use mathlib.Core.Path.{sym, ap, ◌∙◌}
 use Rattle.repeat_test.specs.declared.Compared.{Compared}
 use Rattle.repeat_test.specs.Repeats.{said as said_repeats}

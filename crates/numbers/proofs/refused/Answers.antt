@@ -1,4 +1,3 @@
-use borrow.Author.Rules.{rules}
 use native.Mathlib.Omega.{arith}
 use Rattle.refusals.proofs.Numbers.{number-range}
 use Rattle.numbers.proofs.refused.Goals as goal
