@@ -10,15 +10,12 @@ use lib.Seq.{get_or-drop, take_all, drop-drop}
 use Rattle.calculus.specs.Judgement.{Step}
 use Rattle.calculus.specs.Rules.{step_at}
 use Rattle.calculus.specs.Record.{max_ledger, size}
-use Rattle.calculus.specs.Emit.{not-below, not-implied}
-use Rattle.refusals.specs.declared.Refusal.{Refusal}
 use Rattle.refusals.specs.Refusals.{number}
 use Rattle.refusals.proofs.Numbers.{number-range}
 use Rattle.replies.specs.Replying.{said}
 use Rattle.replies.specs.declared.Called.{Called}
 use Rattle.replies.specs.declared.Called.TheVariants.{Step as StepAnswer, Refused as RefusedAnswer}
 use Rattle.calculus.specs.Table.{text_bytes}
-use Rattle.calculus.specs.Door
 use Rattle.ledger.specs.Ledger.{steps_of, place_of, Led, Points}
 use Rattle.ledger.proofs.LedgerLaws.{many, place-next, place_end}
 use Rattle.ledger.proofs.PointLaws.{Walks, walks-start, walks-points, walks-end, walks_next, walks-forward}

@@ -1,4 +1,3 @@
-use borrow.Author.Rules.{rules}
 use Rattle.formula.specs.declared.Sort.TheVariants.{Intervals}
 use Rattle.formula.specs.Answers.{tree_of}
 use Rattle.implications.proofs.ImplicationLaws.{goal-at}

@@ -1,6 +1,4 @@
-use borrow.Author.Rules.{rules}
 use mathlib.Core.Path.{sym, ◌∙◌}
-use borrow.Author.Tests.{not-true, not-false}
 use Rattle.calculus.specs.Rules.{entails-checked}
 use Rattle.steps.proofs.RunLaws.{runs-led}
 use Rattle.contexts.proofs.AfterLaws.{three-stop, three-stop-2, three-stop-3, three_up}

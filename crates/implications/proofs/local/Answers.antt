@@ -1,4 +1,3 @@
-use borrow.Author.Rules.{rules}
 use Rattle.calculus.specs.Door.{end_of}
 use Rattle.steps.proofs.RunLaws.{emits-same, emits-kind}
 use Rattle.implications.proofs.ImplicationLaws.{local-operands}

@@ -1,9 +1,7 @@
-use native.Mathlib.Omega.{arith}
 use Prim.Native.Nat.{◌+◌, ◌-◌, ◌≤◌}
 use mathlib.Core.Path.{◌≡◌}
 use lib.ListN.{length, drop}
 use Rattle.claims.specs.Facesteps.{first_line}
-use Rattle.claims.proofs.AskLaws.{line-ends, line-goes-on, line-over, line-whole}
 use Rattle.claims.proofs.asking.line_length.Given as goal
 
 abbrev pub invariant-loop-i : goal.invariant-loop-i

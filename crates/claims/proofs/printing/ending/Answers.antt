@@ -1,4 +1,3 @@
-use borrow.Author.Rules.{rules}
 use mathlib.Core.List.{[], ◌∷◌}
 use Rattle.writing.proofs.WriteLaws.{room-first, room_next, wrote-next}
 use Rattle.claims.proofs.printing.ending.Goals as goal

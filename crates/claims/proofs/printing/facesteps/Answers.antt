@@ -1,4 +1,3 @@
-use borrow.Author.Rules.{rules}
 use mathlib.Core.Path.{refl}
 use Rattle.writing.proofs.DeliverLaws.{short-delivers, wrote-delivers}
 use Rattle.writing.proofs.WriteLaws.{wrote_as}

@@ -1,10 +1,6 @@
-use Prim.Native.Nat.{◌-◌}
-use mathlib.Core.Path.{◌≡◌}
-use Rattle.calculus.specs.Record.{size}
-use Rattle.ledger.specs.Ledger.{steps_of}
 use Rattle.ledger.proofs.PointLaws.{walks-start}
 use Rattle.writing.proofs.WriteLaws.{wrote-length}
-use Rattle.claims.proofs.PrintLaws.{Listing, listing_start, listing-points, listing-shows, listing-next, listing-all, listing-less}
+use Rattle.claims.proofs.PrintLaws.{listing_start, listing-points, listing-shows, listing-next, listing-all, listing-less}
 use Rattle.claims.proofs.printing.lines.Goals as goal
 
 pub used-end-requires : goal.used-end-requires

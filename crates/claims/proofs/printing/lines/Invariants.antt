@@ -2,9 +2,7 @@ use Prim.Native.Nat.{◌-◌}
 use mathlib.Core.Path.{◌≡◌}
 use Rattle.calculus.specs.Record.{size}
 use Rattle.ledger.specs.Ledger.{steps_of}
-use Rattle.ledger.proofs.PointLaws.{walks-start}
-use Rattle.writing.proofs.WriteLaws.{wrote-length}
-use Rattle.claims.proofs.PrintLaws.{Listing, listing_start, listing-points, listing-shows, listing-next, listing-all, listing-less}
+use Rattle.claims.proofs.PrintLaws.{Listing}
 use Rattle.claims.proofs.printing.lines.Given as goal
 
 abbrev pub invariant-loop-at : goal.invariant-loop-at

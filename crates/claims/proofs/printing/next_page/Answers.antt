@@ -1,10 +1,6 @@
 use native.Mathlib.Omega.{arith}
-use Prim.Native.Nat.{◌-◌, ◌≤◌}
-use mathlib.Core.Path.{◌≡◌}
-use Rattle.calculus.specs.Record.{size}
-use Rattle.ledger.specs.Ledger.{steps_of}
 use Rattle.writing.proofs.WriteLaws.{wrote-length}
-use Rattle.claims.proofs.PrintLaws.{Listing, listing_start, listing-points, listing-shows, listing-next, listing-less, walks-among, page-fits, page-full, page-last}
+use Rattle.claims.proofs.PrintLaws.{listing_start, listing-points, listing-shows, listing-next, listing-less, walks-among, page-fits, page-full, page-last}
 use Rattle.claims.proofs.printing.next_page.Goals as goal
 
 pub used-end-requires : goal.used-end-requires

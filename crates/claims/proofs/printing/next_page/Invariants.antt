@@ -1,10 +1,8 @@
-use native.Mathlib.Omega.{arith}
 use Prim.Native.Nat.{◌-◌, ◌≤◌}
 use mathlib.Core.Path.{◌≡◌}
 use Rattle.calculus.specs.Record.{size}
 use Rattle.ledger.specs.Ledger.{steps_of}
-use Rattle.writing.proofs.WriteLaws.{wrote-length}
-use Rattle.claims.proofs.PrintLaws.{Listing, listing_start, listing-points, listing-shows, listing-next, listing-less, walks-among, page-fits, page-full, page-last}
+use Rattle.claims.proofs.PrintLaws.{Listing}
 use Rattle.claims.proofs.printing.next_page.Given as goal
 
 abbrev pub invariant-loop-place : goal.invariant-loop-place

@@ -1,4 +1,3 @@
-use borrow.Author.Rules.{rules}
 use Rattle.writing.proofs.WriteLaws.{room_next, wrote-next}
 use Rattle.claims.proofs.printing.whole.Goals as goal
 

@@ -1,6 +1,5 @@
 use borrow.Author.Rules.{rules}
 use mathlib.Core.Path.{sym, ◌∙◌}
-use native.Mathlib.Omega.{arith}
 use borrow.Author.Tests.{ltb-true}
 use Rattle.formula.specs.declared.Sort.TheVariants.{Intervals}
 use Rattle.calculus.proofs.Fields.{below_each}

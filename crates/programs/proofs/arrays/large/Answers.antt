@@ -1,4 +1,3 @@
-use borrow.Author.Rules.{rules}
 use native.Mathlib.Omega.{arith}
 use Rattle.programs.proofs.ProgramLaws.{roomy}
 use Rattle.programs.proofs.arrays.large.Goals as goal

@@ -1,4 +1,3 @@
-use borrow.Author.Rules.{rules}
 use Rattle.programs.proofs.ProgramLaws.{ready, asked-runs}
 use Rattle.programs.proofs.emitters.emit.Goals as goal
 

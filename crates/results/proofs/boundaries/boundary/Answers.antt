@@ -1,5 +1,4 @@
-use borrow.Author.Rules.{rules}
-use mathlib.Core.Path.{ap, sym}
+use mathlib.Core.Path.{sym}
 use lib.Seq.{length-take-le}
 use Rattle.transforms.proofs.ImageLaws.{room, sides-made, sides-size, zero-front, one-front, sides-front}
 use Rattle.results.proofs.SideLaws.{short-first, short-second, first_fits, second_fits}

@@ -1,4 +1,3 @@
-use borrow.Author.Rules.{rules}
 use Rattle.replies.proofs.ReplyLaws.{end-inside}
 use Rattle.results.proofs.SideLaws.{both-made}
 use Rattle.results.proofs.boundaries.run.Goals as goal

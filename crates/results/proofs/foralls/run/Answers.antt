@@ -1,4 +1,3 @@
-use borrow.Author.Rules.{rules}
 use Rattle.replies.proofs.ReplyLaws.{end-inside}
 use Rattle.results.proofs.ResultLaws.{one-made}
 use Rattle.results.proofs.IndexLaws.{forall-result}

@@ -1,4 +1,3 @@
-use borrow.Author.Rules.{rules}
 use Rattle.replies.proofs.ReplyLaws.{end-inside}
 use Rattle.runs.proofs.BoundLaws.{bounded-replies}
 use Rattle.runs.proofs.bounds.bounded.Goals as goal

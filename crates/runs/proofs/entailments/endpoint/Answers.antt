@@ -1,5 +1,4 @@
-use borrow.Author.Rules.{rules}
-use mathlib.Core.Path.{ap, sym}
+use mathlib.Core.Path.{sym}
 use lib.Seq.{length-take-le}
 use Rattle.transforms.proofs.ImageLaws.{room, sides-made, zero-front, one-front, sides-front}
 use Rattle.runs.proofs.entailments.endpoint.Goals as goal

@@ -1,4 +1,3 @@
-use borrow.Author.Rules.{rules}
 use Rattle.replies.proofs.ReplyLaws.{end-inside}
 use Rattle.runs.proofs.ImplicationLaws.{entails-replies}
 use Rattle.runs.proofs.entailments.entails.Goals as goal
