@@ -8,7 +8,7 @@ use mathlib.Core.Option.{Option, none, some, some-injective, none-ne-some}
 use mathlib.Core.List.Memᴰ.{head as here}
 use mathlib.Core.List.Memᴰ.{tail as there}
 use mathlib.Core.List.{List, [], ◌∷◌, ◌++◌}
-use Rattle.formula.specs.Formula.{End, lo, hi, other, end_of, Face, at, fand, for, Val, v0, v1, vu, is, Assignment, holds}
+use Rattle.formula.specs.Formula.{End, lo, hi, other, end_of, Face, fand, for, Val, v0, v1, vu, is, Assignment, holds}
 use Rattle.clauses.specs.Normal.{numbered, literal, opposite, Clause, entered, lex, any, properly, opposed, union, sets-of-literals, minimal, prune, pairs, literal-sets, dnf, ands, conjunction, ors, disjunction, formed, normal}
 use Rattle.clauses.proofs.Keeping.{Kept, clauses-kept}
 use Rattle.clauses.proofs.Orders.{lex-orders}

@@ -1,6 +1,6 @@
 -- Reading and writing are inverse, for both sorts: what was encoded is read back with what follows it, and what was read
 -- was encoded; so encodings are injective and none is a proper prefix of another.
-use Prim.Native.Nat.{ℕ, zero, suc, ◌+◌, ◌≤◌, ◌<◌}
+use Prim.Native.Nat.{ℕ, zero, suc, ◌≤◌, ◌<◌}
 use native.Mathlib.Omega.{arith}
 use mathlib.Core.Path.{◌≡◌, refl, sym, ap, ◌∙◌}
 use mathlib.Core.Option.{some, none-ne-some, some-injective}

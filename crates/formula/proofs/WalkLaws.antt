@@ -10,7 +10,7 @@ use lib.Dec.{leb, eqb}
 use lib.ListN.{length, get_or, take, drop, length-append, length-drop, drop_of_length-le}
 use lib.Seq.{drop-cons, take_at}
 use borrow.Author.Tests.{le-leb, leb-true, leb-false, eq-eqb, ne_eqb}
-use Rattle.formula.specs.Bytes.{Tree, dim_width, dim_at, encode, Node, leaf, lit, one, two, bad, node_of, Got, nothing, got, then, take_dim, front, read, wholly, read_all, nodes, bound}
+use Rattle.formula.specs.Bytes.{Tree, dim_width, dim_at, encode, Node, leaf, lit, one, two, bad, node_of, Got, nothing, got, then, take_dim, front, read, wholly, read_all}
 use Rattle.formula.specs.Answers.{pick, step_by, step_of, kind_of, size_read, measurement, size_front, measurement_at, bytes_of, part_at}
 use Rattle.formula.specs.Walks.{counted, turn_of, read_row, over_tree, passed, finish, walked_at}
 use Rattle.formula.specs.declared.Sort.{Sort}

@@ -2,4 +2,3 @@ pub mod Limits
 pub mod Counting
 pub mod Moving
 pub mod Following
-pub mod Replies

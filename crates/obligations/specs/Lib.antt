@@ -1,3 +1,2 @@
 pub mod Limited
 pub mod Obligations
-pub mod Guarded

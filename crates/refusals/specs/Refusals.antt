@@ -1,5 +1,5 @@
 -- Refusals: document 01's numbers, and what is answered where something may be refused.
-use Rattle.std.specs.Prelude.{ℕ, Bool, true, false, leb}
+use Rattle.std.specs.Prelude.{ℕ, true, false, leb}
 use Rattle.refusals.specs.declared.Refusal.{Refusal}
 use Rattle.refusals.specs.declared.Refusal.TheVariants.{IllFormedLedger, NotAFormula, TooManyNodes, LargeDimension, LargeResult, ShortOutput, FullLedger, NotBelow, NotImplied, DoesNotFollow, NotAccepted, Implied, BeyondProducer}
 use Rattle.refusals.specs.declared.Counted.{Counted}

@@ -5,7 +5,7 @@ use Rattle.exports.proofs.FitLaws.{packs-one, numbers}
 use Rattle.exports.proofs.lf_substitute_interval.Goals as goal
 
 pub made-requires : goal.made-requires
-made-requires c = let l = c.args.ledger.now in packs-one (below_each 256 l (λ i h. omega (arith, c.type_inv.ledger i))) c.substitute.ensures
+made-requires c = let l = c.args.ledger.now in packs-one (below_each 256 l (λ i h. search rules)) c.substitute.ensures
 
 pub returns : goal.returns
 returns c = numbers c.substitute.ensures c.made.ensures.0

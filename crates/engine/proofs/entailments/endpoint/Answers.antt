@@ -9,7 +9,7 @@ use Rattle.runs.proofs.ImplicationLaws.{endpoint-refused}
 use Rattle.engine.proofs.entailments.endpoint.Goals as goal
 
 pub endpoint-requires : goal.endpoint-requires
-endpoint-requires c = let p = c.args in let x = two-open Faces p.phi.now Intervals p.r.now p.l.now _ (below_each 256 p.l.now (λ i h. omega (arith, c.type_inv.l i))) (sym c.two.ensures ∙ c.in-Open.is) in (x.0, leb-true p.d 255 x.3, x.1, x.2)
+endpoint-requires c = let p = c.args in let x = two-open Faces p.phi.now Intervals p.r.now p.l.now _ (below_each 256 p.l.now (λ i h. search rules)) (sym c.two.ensures ∙ c.in-Open.is) in (x.0, leb-true p.d 255 x.3, x.1, x.2)
 
 pub returns-in-Shut : goal.returns-in-Shut
 returns-in-Shut c = let p = c.args in endpoint-refused p.d p.phi.now p.r.now p.one p.l.now _ (sym c.two.ensures ∙ c.in-Shut.is)

@@ -1,6 +1,6 @@
-use Prim.Native.Nat.{◌≤◌, ◌-◌, ℕ, ◌+◌}
+use Prim.Native.Nat.{ℕ, ◌+◌}
 use native.Mathlib.Omega.{arith}
-use mathlib.Core.Path.{◌≡◌, refl, ap, ◌∙◌}
+use mathlib.Core.Path.{refl, ap, ◌∙◌}
 use lib.ListN.{length, take, set, get_or}
 use mathlib.Core.List.{List}
 use lib.Seq.{sets, length-sets, take_all}
@@ -8,7 +8,6 @@ use Rattle.formula.proofs.ByteLaws.{copied_more}
 use Rattle.formula.proofs.bytes.copy.Goals as goal
 
 -- The stores so far are those of the source's first bytes.
-use Rattle.formula.proofs.bytes.copy.Statement.{statement}
 
 pub loop-i-init : goal.loop-i-init
 loop-i-init c = (omega arith, refl)

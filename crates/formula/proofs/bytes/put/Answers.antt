@@ -1,4 +1,3 @@
-use borrow.Author.Rules.{rules}
 use native.Mathlib.Omega.{arith}
 use Rattle.formula.proofs.ByteLaws.{put_in, put-out}
 use Rattle.formula.proofs.bytes.put.Goals as goal

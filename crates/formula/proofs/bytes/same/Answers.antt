@@ -1,15 +1,14 @@
-use Prim.Native.Nat.{◌≤◌, ◌-◌, ◌+◌}
+use Prim.Native.Nat.{◌+◌}
 use native.Mathlib.Omega.{arith}
-use mathlib.Core.Path.{◌≡◌, refl, sym, ap, ◌∙◌}
+use mathlib.Core.Path.{refl, sym, ap, ◌∙◌}
 use mathlib.Core.Bool.{Bool, ◌&&◌}
-use lib.ListN.{length, drop}
+use lib.ListN.{drop}
 use borrow.Author.Tests.{eq-eqb, ne_eqb}
 use Rattle.formula.specs.Answers.{same_bytes}
 use Rattle.formula.proofs.ByteLaws.{same-lengths, same_at, same_ends}
 use Rattle.formula.proofs.bytes.same.Goals as goal
 
 -- The lists agree as far as they were compared, so what is left decides.
-use Rattle.formula.proofs.bytes.same.Statement.{statement}
 
 pub returns-then-a-b : goal.returns-then-a-b
 returns-then-a-b c = let x = c.args in sym (same-lengths x.a.now x.b.now c.if-a-b.true)

@@ -1,4 +1,3 @@
-use borrow.Author.Rules.{rules}
 use mathlib.Core.Path.{sym, ap, ◌∙◌}
 use Rattle.formula.specs.Answers.{kind_of}
 use Rattle.formula.specs.declared.Sort.{Sort}

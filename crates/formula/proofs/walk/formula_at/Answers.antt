@@ -1,4 +1,3 @@
-use borrow.Author.Rules.{rules}
 use mathlib.Core.Path.{sym, ◌∙◌}
 use Rattle.formula.proofs.WalkLaws.{part-as}
 use Rattle.formula.proofs.walk.formula_at.Goals as goal

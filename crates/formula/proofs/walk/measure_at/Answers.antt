@@ -1,4 +1,3 @@
-use borrow.Author.Rules.{rules}
 use mathlib.Core.Path.{sym, ap, ◌∙◌}
 use Rattle.formula.proofs.WalkLaws.{part-as, size_from, measure-at-law}
 use Rattle.formula.proofs.walk.measure_at.Goals as goal

@@ -1,4 +1,3 @@
-use borrow.Author.Rules.{rules}
 use mathlib.Core.Path.{sym, ◌∙◌}
 use Rattle.formula.proofs.Operands.{operand-sized}
 use Rattle.formula.proofs.walk.operand.Goals as goal

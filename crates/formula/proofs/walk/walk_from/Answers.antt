@@ -1,11 +1,10 @@
-use borrow.Author.Rules.{rules}
-use Prim.Native.Nat.{ℕ, ◌+◌, ◌-◌, max}
+use Prim.Native.Nat.{ℕ, ◌+◌, max}
 use native.Mathlib.Omega.{arith}
 use mathlib.Core.Path.{refl, sym, ap, ◌∙◌}
-use lib.ListN.{length, drop}
+use lib.ListN.{drop}
 use borrow.Author.Tests.{le-leb, lt-leb}
 use Rattle.formula.specs.declared.Kind.TheVariants.{Nullary, Literal, Unary, Binary, Unknown}
-use Rattle.formula.proofs.WalkLaws.{Walking, walking-outside, walking_start, walking-few, walking-broken, walking_on, on-eq, finish-zero}
+use Rattle.formula.proofs.WalkLaws.{walking-outside, walking_start, walking-few, walking-broken, walking_on, on-eq, finish-zero}
 use Rattle.formula.proofs.walk.walk_from.Goals as goal
 use Rattle.formula.proofs.walk.walk_from.Goals.{in-Nullary, in-Literal+else-s-e-lt-DIM, in-Unary, in-Binary}
 

@@ -1,4 +1,3 @@
-use borrow.Author.Rules.{rules}
 use Rattle.formula.proofs.Operands.{sized-keeps}
 use Rattle.formula.proofs.walk.within.Goals as goal
 
