@@ -1,5 +1,5 @@
 -- `room` has its length by a law: the zeros are too many to count.
-use mathlib.Core.Path.{sym}
+use Rattle.std.proofs.Common.{sym}
 use Prim.Native.Nat.{ℕ}
 use lib.ListN.{length-replicate}
 use Rattle.facesteps.proofs.room.Goals as goal
