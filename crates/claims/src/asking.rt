@@ -13,7 +13,8 @@ fn line_length(input: &[u8]) -> usize
 {
     let mut i: usize = 0;
     while i < input.len() {
-        if input[i] == 10 {
+        let ends = input[i] == 10;
+        if ends {
             return i;
         }
         i += 1;
@@ -27,7 +28,8 @@ pub fn ask(input: &[u8], ledger: &mut [u8]) -> Called
     ensures { Asks input.now result ledger.new }
 {
     let n = line_length(input);
-    if 4096 < n {
+    let long = 4096 < n;
+    if long {
         return Called::Refused(Refusal::NotAccepted);
     }
     let mut a = [0u8; 1024];

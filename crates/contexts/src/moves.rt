@@ -90,7 +90,8 @@ pub fn first_compound(n: usize, g: &[u8]) -> usize
         return 0;
     }
     let x = formula::formula_at(Sort::Faces, g, 0);
-    if 3 < x[0] {
+    let compound = 3 < x[0];
+    if compound {
         return 0;
     }
     1 + first_compound(n - 1, &g[x.len()..])

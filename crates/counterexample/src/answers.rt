@@ -53,7 +53,8 @@ fn admit(d: usize, a: &[u8], low: usize, b: &[u8], high: usize, out: &mut [u8]) 
     if 255 < d {
         return Counted::Refused(Refusal::LargeDimension);
     }
-    if out.len() < d {
+    let short = out.len() < d;
+    if short {
         return Counted::Refused(Refusal::ShortOutput);
     }
     if d < formula::larger(low, high) {

@@ -65,7 +65,8 @@ pub fn hopeless(state: &[u8], best: &[u8], k: usize, total: usize, count: usize)
     requires { length best.now ≡ length state.now }
     ensures { result ≡ hopeless_of state.now best.now k total count }
 {
-    if total < count {
+    let fewer = total < count;
+    if fewer {
         return false;
     }
     if count < total {

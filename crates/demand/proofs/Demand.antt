@@ -3,7 +3,6 @@ use mathlib.Core.Path.{◌≡◌, refl, sym, ap, ◌∙◌, subst}
 use mathlib.Core.Bool.{Bool, true, false}
 use mathlib.Core.Option.{some}
 use mathlib.Core.List.{List, Memᴰ}
-use mathlib.Core.List
 use Prim.Native.Nat.{ℕ, zero, suc, ◌≤◌, ◌<◌}
 use native.Mathlib.Omega.{arith}
 use lib.Dec.{leb}
@@ -17,7 +16,6 @@ use Rattle.calculus.specs.Judgement.{Step}
 use Rattle.calculus.specs.Rules.{AllBelow, Valid, passes, fails}
 use Rattle.calculus.specs.Record.{max_ledger, Holds}
 use Rattle.calculus.specs.Parse.{read_ledger}
-use Rattle.calculus.specs.Emit.{not-below, not-implied}
 use Rattle.refusals.specs.declared.Refusal.TheVariants.{NotBelow, NotImplied}
 use Rattle.refusals.specs.Refusals.{number}
 use Rattle.calculus.specs.Door

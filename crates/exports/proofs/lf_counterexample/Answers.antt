@@ -1,4 +1,3 @@
-use borrow.Author.Rules.{rules}
 use Rattle.exports.proofs.FitLaws.{shown-number}
 use Rattle.exports.proofs.lf_counterexample.Goals as goal
 

@@ -1,4 +1,3 @@
-use borrow.Author.Rules.{rules}
 use mathlib.Core.Path.{subst}
 use mathlib.Core.Bool.{Bool}
 use Rattle.calculus.specs.Door.{reply, endpoint}

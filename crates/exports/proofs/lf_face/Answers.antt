@@ -1,4 +1,3 @@
-use borrow.Author.Rules.{rules}
 use Rattle.exports.proofs.FitLaws.{numbers}
 use Rattle.exports.proofs.lf_face.Goals as goal
 

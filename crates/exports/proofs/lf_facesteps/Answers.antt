@@ -1,4 +1,3 @@
-use borrow.Author.Rules.{rules}
 use Rattle.exports.proofs.FitLaws.{delivered-number}
 use Rattle.exports.proofs.lf_facesteps.Goals as goal
 

@@ -1,5 +1,4 @@
 use borrow.Author.Rules.{rules}
-use native.Mathlib.Omega.{arith}
 use Rattle.calculus.proofs.Fields.{below_each}
 use Rattle.exports.proofs.FitLaws.{packs-one, numbers}
 use Rattle.exports.proofs.lf_forall.Goals as goal

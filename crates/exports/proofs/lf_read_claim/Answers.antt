@@ -1,4 +1,3 @@
-use borrow.Author.Rules.{rules}
 use Rattle.exports.proofs.FitLaws.{claim-number, claim-fits}
 use Rattle.exports.proofs.lf_read_claim.Goals as goal
 

@@ -1,4 +1,3 @@
-use borrow.Author.Rules.{rules}
 use mathlib.Core.Path.{ap, ◌∙◌}
 use Rattle.numbers.specs.Answers.{count_number}
 use Rattle.exports.proofs.lf_well_formed.Goals as goal

@@ -8,8 +8,8 @@ loop-i-init c = (omega arith, line-whole c.args.input.now)
 pub bounds-input-i : goal.bounds-input-i
 bounds-input-i c = omega arith
 
-pub returns-then-input-i-eq10 : goal.returns-then-input-i-eq10
-returns-then-input-i-eq10 c = omega (arith, c.loop-i.invariant.1, line-ends c.args.input.now c.loop-i.i c.loop-i-test.true c.if-input-i-eq10.true)
+pub returns-then-ends : goal.returns-then-ends
+returns-then-ends c = omega (arith, c.loop-i.invariant.1, line-ends c.args.input.now c.loop-i.i c.loop-i-test.true c.if-ends.true)
 
 pub overflow_add-i : goal.overflow_add-i
 overflow_add-i c = omega arith
@@ -18,7 +18,7 @@ pub loop-i-smaller : goal.loop-i-smaller
 loop-i-smaller c = omega arith
 
 pub loop-i-preserved : goal.loop-i-preserved
-loop-i-preserved c = (omega arith, omega (arith, c.loop-i.invariant.1, line-goes-on c.args.input.now c.loop-i.i c.loop-i-test.true c.if-input-i-eq10.false))
+loop-i-preserved c = (omega arith, omega (arith, c.loop-i.invariant.1, line-goes-on c.args.input.now c.loop-i.i c.loop-i-test.true c.if-ends.false))
 
 pub returns : goal.returns
 returns c = omega (arith, c.loop-i.invariant.1, line-over c.args.input.now c.loop-i.i c.loop-i-test.false)

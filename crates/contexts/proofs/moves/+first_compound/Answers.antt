@@ -12,8 +12,8 @@ formula_at-x-requires t c = tt
 pub bounds-x-0 : goal.bounds-x-0
 bounds-x-0 t c = face-some (first_of _ _ _ _ c.requires c.if-n-eq0.false c.formula_at-x.ensures).face
 
-pub returns-then-x-gt3 : goal.returns-then-x-gt3
-returns-then-x-gt3 t c = (omega arith, compound-here c.requires c.if-n-eq0.false c.formula_at-x.ensures c.if-x-gt3.true)
+pub returns-then-compound : goal.returns-then-compound
+returns-then-compound t c = (omega arith, compound-here c.requires c.if-n-eq0.false c.formula_at-x.ensures c.if-compound.true)
 
 pub overflow_sub-n : goal.overflow_sub-n
 overflow_sub-n t c = omega (arith, c.if-n-eq0.false)
@@ -28,4 +28,4 @@ pub first_compound-requires : goal.first_compound-requires
 first_compound-requires t c = (omega (arith, c.decreases, c.if-n-eq0.false), context-as (first_of _ _ _ _ c.requires c.if-n-eq0.false c.formula_at-x.ensures).others)
 
 pub returns : goal.returns
-returns t c = (omega (arith, c.first_compound.ensures.0, c.if-n-eq0.false), compound-there c.requires c.if-n-eq0.false c.formula_at-x.ensures c.if-x-gt3.false c.first_compound.ensures.1)
+returns t c = (omega (arith, c.first_compound.ensures.0, c.if-n-eq0.false), compound-there c.requires c.if-n-eq0.false c.formula_at-x.ensures c.if-compound.false c.first_compound.ensures.1)

@@ -1,4 +1,3 @@
-use borrow.Author.Rules.{rules}
 use Rattle.demand.proofs.Traces.{replies-says}
 use Rattle.demand.proofs.calls.interval.Goals as goal
 
