@@ -34,10 +34,12 @@ fn count_records(s: &[u8]) -> Checked
 pub fn well_formed(l: &[u8]) -> Checked
     ensures { said_checked result ≡ step_count (read_ledger l.now) }
 {
-    if l.len() < 4 {
+    let short = l.len() < 4;
+    if short {
         return Checked::Ill;
     }
-    if 1048576 < l.len() {
+    let long = 1048576 < l.len();
+    if long {
         return Checked::Ill;
     }
     let n = records::get4(l, 0);

@@ -16,7 +16,8 @@ pub fn note(places: &mut [u32], step: usize, at: usize)
     requires { (step < 16 * length places.old) × (at < 4294967296) }
     ensures { Notes step at places.old places.new }
 {
-    if step % 16 != 0 {
+    let between = step % 16 != 0;
+    if between {
         return;
     }
     places[step / 16] = at as u32;
