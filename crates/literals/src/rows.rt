@@ -39,7 +39,8 @@ pub fn rank(numbers: &[usize], k: usize) -> usize
 fn opposite(k: usize) -> usize
     ensures { result ≡ opposite_of k }
 {
-    if k % 2 == 0 {
+    let even = k % 2 == 0;
+    if even {
         return k + 1;
     }
     k - 1

@@ -23,7 +23,8 @@ fn cost(s: u8, side: usize) -> usize
     if now == 2 {
         return 1;
     }
-    if now + side == 4 {
+    let opened = now + side == 4;
+    if opened {
         return 1;
     }
     NEVER
@@ -54,7 +55,8 @@ fn needed(mark: u8, x: usize, y: usize) -> usize
     requires { (x ≤ never) × (y ≤ never) }
     ensures { result ≡ needed_of mark x y }
 {
-    if mark == 1 {
+    let apart = mark == 1;
+    if apart {
         let sum = x + y;
         if sum < NEVER {
             return sum;

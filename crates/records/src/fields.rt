@@ -58,7 +58,8 @@ fn end_end(s: &[u8], at: usize) -> End
             if z.nodes != 1 {
                 return End::Ill;
             }
-            if z.bound != 0 {
+            let dimensional = z.bound != 0;
+            if dimensional {
                 return End::Ill;
             }
             End::To(at + n)

@@ -13,7 +13,8 @@ use refusals::Refusal;
 fn limits(nodes: usize, bound: usize, low: bool) -> Gate
     ensures { result ≡ limits_gate (leb nodes max_nodes) (low && leb bound max_bound) }
 {
-    if 511 < nodes {
+    let many = 511 < nodes;
+    if many {
         return Gate::Shut(Refusal::TooManyNodes);
     }
     if !low {

@@ -45,7 +45,8 @@ pub fn boundary(l: &mut [u8], r: &[u8], out0: &mut [u8], out1: &mut [u8]) -> Mad
             if out0.len() < n {
                 return Made::Refused(Refusal::ShortOutput);
             }
-            if out1.len() < n {
+            let short = out1.len() < n;
+            if short {
                 return Made::Refused(Refusal::ShortOutput);
             }
             run(l, r, &zero[..n], &one[..n], z, out0, out1)

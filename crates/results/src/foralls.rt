@@ -34,7 +34,8 @@ pub fn forall(l: &mut [u8], f: &[u8], k: usize, out: &mut [u8]) -> Made
     match operations::forall(f, k, &mut result) {
         Sized::Fits(z) => {
             let n = z.len;
-            if out.len() < n {
+            let short = out.len() < n;
+            if short {
                 return Made::Refused(Refusal::ShortOutput);
             }
             run(l, f, k, &result[..n], z, out)

@@ -44,7 +44,8 @@ pub fn transform(l: &mut [u8], sort: Sort, op: Op, t: &[u8], r: &[u8], out: &mut
     match operations::transform(sort, op, t, r, &mut result) {
         Sized::Fits(z) => {
             let n = z.len;
-            if out.len() < n {
+            let short = out.len() < n;
+            if short {
                 return Made::Refused(Refusal::ShortOutput);
             }
             run(l, sort, op, t, r, &result[..n], z, out)

@@ -52,7 +52,8 @@ pub(crate) fn next_turn(n: usize, g: &[u8], goal: &[u8]) -> Turn
     requires { Context n g.now × Known Faces goal.now }
     ensures { Turns (context_of n g.now) (tree_of Faces goal.now) (move (context_of n g.now) (tree_of Faces goal.now)) result }
 {
-    if goal[0] == 1 {
+    let top = goal[0] == 1;
+    if top {
         return Turn::Top;
     }
     if contexts::has(goal, n, g) {

@@ -14,10 +14,12 @@ fn limits(sort: Sort, s: &[u8], z: Size) -> Counted
     requires { Kept sort s.now z }
     ensures { said_counted result ≡ limited sort (tree_of sort s.now) }
 {
-    if 33 < z.bound {
+    let beyond = 33 < z.bound;
+    if beyond {
         return Counted::Refused(Refusal::BeyondProducer);
     }
-    if z.nodes <= 33 {
+    let few = z.nodes <= 33;
+    if few {
         return Counted::Number(z.nodes);
     }
     if depths::shallow(sort, s) {

@@ -127,7 +127,8 @@ fn deliver_both(d: usize, x: &[u8], y: &[u8], a: &mut [u8], b: &mut [u8]) -> Cla
     if a.len() < x.len() {
         return Claim::Refused(Refusal::ShortOutput);
     }
-    if b.len() < y.len() {
+    let short = b.len() < y.len();
+    if short {
         return Claim::Refused(Refusal::ShortOutput);
     }
     formula::copy(x, a, 0);

@@ -18,7 +18,8 @@ fn class_of(b: u8) -> usize
     if b == 32 {
         return 2;
     }
-    if b == 10 {
+    let newline = b == 10;
+    if newline {
         return 2;
     }
     3

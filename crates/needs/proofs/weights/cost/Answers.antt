@@ -11,8 +11,8 @@ returns-then-now-lt2 c = let s = c.args.s in let e = c.args.side in rw (lt-ltb s
 pub returns-then-now-eq2 : goal.returns-then-now-eq2
 returns-then-now-eq2 c = let s = c.args.s in let e = c.args.side in rw (le-ltb s 2 c.if-now-lt2.false, eq-eqb s 2 c.if-now-eq2.true)
 
-pub returns-then-now-side-eq4 : goal.returns-then-now-side-eq4
-returns-then-now-side-eq4 c = let s = c.args.s in let e = c.args.side in rw (le-ltb s 2 c.if-now-lt2.false, ne_eqb s 2 c.if-now-eq2.false, eq-eqb (s + e) 4 c.if-now-side-eq4.true)
+pub returns-then-opened : goal.returns-then-opened
+returns-then-opened c = let s = c.args.s in let e = c.args.side in rw (le-ltb s 2 c.if-now-lt2.false, ne_eqb s 2 c.if-now-eq2.false, eq-eqb (s + e) 4 c.if-opened.true)
 
 pub returns : goal.returns
-returns c = let s = c.args.s in let e = c.args.side in rw (le-ltb s 2 c.if-now-lt2.false, ne_eqb s 2 c.if-now-eq2.false, ne_eqb (s + e) 4 c.if-now-side-eq4.false)
+returns c = let s = c.args.s in let e = c.args.side in rw (le-ltb s 2 c.if-now-lt2.false, ne_eqb s 2 c.if-now-eq2.false, ne_eqb (s + e) 4 c.if-opened.false)

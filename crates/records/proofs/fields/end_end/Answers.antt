@@ -10,14 +10,14 @@ use Rattle.records.proofs.fields.end_end.Goals as goal
 pub returns-then-z-ne1 : goal.returns-then-z-ne1
 returns-then-z-ne1 c = let a = c.args in sym (end-as a.s.now a.at c.requires (sym (measured_at-as _ _ _ c.measure_at.ensures) ∙ c.in-Formula.is) (ne_eqb _ 1 c.if-z-ne1.true) refl)
 
-pub returns-then-z-ne0 : goal.returns-then-z-ne0
-returns-then-z-ne0 c = let a = c.args in sym (end-as a.s.now a.at c.requires (sym (measured_at-as _ _ _ c.measure_at.ensures) ∙ c.in-Formula.is) (eq-eqb _ 1 c.if-z-ne1.false) (ne_eqb _ 0 c.if-z-ne0.true))
+pub returns-then-dimensional : goal.returns-then-dimensional
+returns-then-dimensional c = let a = c.args in sym (end-as a.s.now a.at c.requires (sym (measured_at-as _ _ _ c.measure_at.ensures) ∙ c.in-Formula.is) (eq-eqb _ 1 c.if-z-ne1.false) (ne_eqb _ 0 c.if-dimensional.true))
 
 pub overflow_add-result : goal.overflow_add-result
 overflow_add-result c = let a = c.args in let f = size_fits Intervals a.s.now a.at c.requires _ (sym (measured_at-as _ _ _ c.measure_at.ensures) ∙ c.in-Formula.is) in omega arith
 
-pub returns-else-z-ne0 : goal.returns-else-z-ne0
-returns-else-z-ne0 c = let a = c.args in sym (end-as a.s.now a.at c.requires (sym (measured_at-as _ _ _ c.measure_at.ensures) ∙ c.in-Formula.is) (eq-eqb _ 1 c.if-z-ne1.false) (eq-eqb _ 0 c.if-z-ne0.false))
+pub returns-else-dimensional : goal.returns-else-dimensional
+returns-else-dimensional c = let a = c.args in sym (end-as a.s.now a.at c.requires (sym (measured_at-as _ _ _ c.measure_at.ensures) ∙ c.in-Formula.is) (eq-eqb _ 1 c.if-z-ne1.false) (eq-eqb _ 0 c.if-dimensional.false))
 
 pub returns-in-Ill : goal.returns-in-Ill
 returns-in-Ill c = let a = c.args in sym (end-law a.s.now a.at c.requires ∙ ap (end_to a.at) (sym (measured_at-as _ _ _ c.measure_at.ensures) ∙ c.in-Ill.is))

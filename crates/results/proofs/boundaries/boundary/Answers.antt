@@ -7,8 +7,8 @@ use Rattle.results.proofs.boundaries.boundary.Goals as goal
 pub returns-then-out0-n : goal.returns-then-out0-n
 returns-then-out0-n c = let p = c.args in short-first p.r.now p.out0.now p.out1.now c.requires.0 c.requires.1 (sides-size c.requires.1 room room c.boundary.ensures _ c.in-Fits.is) c.if-out0-n.true
 
-pub returns-then-out1-n : goal.returns-then-out1-n
-returns-then-out1-n c = let p = c.args in short-second p.r.now p.out0.now p.out1.now c.requires.0 c.requires.1 (sides-size c.requires.1 room room c.boundary.ensures _ c.in-Fits.is) c.if-out1-n.true
+pub returns-then-short : goal.returns-then-short
+returns-then-short c = let p = c.args in short-second p.r.now p.out0.now p.out1.now c.requires.0 c.requires.1 (sides-size c.requires.1 room room c.boundary.ensures _ c.in-Fits.is) c.if-short.true
 
 pub slice_bounds-zero-end : goal.slice_bounds-zero-end
 slice_bounds-zero-end c = (zero-front c.requires.1 room room c.boundary.ensures _ c.in-Fits.is).inside
@@ -23,7 +23,7 @@ pub slice_bounds-run-end-in-Fits : goal.slice_bounds-run-end-in-Fits
 slice_bounds-run-end-in-Fits c = sym (length-take-le _ _ (one-front c.requires.1 room room c.boundary.ensures _ c.in-Fits.is).inside)
 
 pub run-requires : goal.run-requires
-run-requires c = (c.requires.0, c.requires.1, record { sides = sides-front c.requires.1 room room c.boundary.ensures _ c.in-Fits.is; size = sides-size c.requires.1 room room c.boundary.ensures _ c.in-Fits.is }, first_fits c.requires.1 room room c.boundary.ensures _ c.in-Fits.is c.if-out0-n.false, second_fits c.requires.1 room room c.boundary.ensures _ c.in-Fits.is c.if-out1-n.false)
+run-requires c = (c.requires.0, c.requires.1, record { sides = sides-front c.requires.1 room room c.boundary.ensures _ c.in-Fits.is; size = sides-size c.requires.1 room room c.boundary.ensures _ c.in-Fits.is }, first_fits c.requires.1 room room c.boundary.ensures _ c.in-Fits.is c.if-out0-n.false, second_fits c.requires.1 room room c.boundary.ensures _ c.in-Fits.is c.if-short.false)
 
 pub returns-in-Refused : goal.returns-in-Refused
 returns-in-Refused c = sides-made c.requires.1 room room c.boundary.ensures c.in-Refused.is

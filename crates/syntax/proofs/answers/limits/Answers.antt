@@ -2,11 +2,11 @@ use native.Mathlib.Omega.{arith}
 use Rattle.syntax.proofs.AnswerLaws.{beyond-index, few-within, within, beyond-depth}
 use Rattle.syntax.proofs.answers.limits.Goals as goal
 
-pub returns-then-z-gt33 : goal.returns-then-z-gt33
-returns-then-z-gt33 c = beyond-index c.requires (omega arith)
+pub returns-then-beyond : goal.returns-then-beyond
+returns-then-beyond c = beyond-index c.requires (omega arith)
 
-pub returns-then-z-le33 : goal.returns-then-z-le33
-returns-then-z-le33 c = few-within c.requires (omega arith) (omega arith)
+pub returns-then-few : goal.returns-then-few
+returns-then-few c = few-within c.requires (omega arith) (omega arith)
 
 pub shallow-requires : goal.shallow-requires
 shallow-requires c = c.requires.whole

@@ -5,8 +5,8 @@ use Rattle.text.proofs.reads.deliver_both.Goals as goal
 pub returns-then-a-x : goal.returns-then-a-x
 returns-then-a-x c = let a = c.args in both-short-left a.d a.x.now a.y.now a.a.now a.b.now c.if-a-x.true
 
-pub returns-then-b-y : goal.returns-then-b-y
-returns-then-b-y c = let a = c.args in both-short-right a.d a.x.now a.y.now a.a.now a.b.now c.if-b-y.true
+pub returns-then-short : goal.returns-then-short
+returns-then-short c = let a = c.args in both-short-right a.d a.x.now a.y.now a.a.now a.b.now c.if-short.true
 
 pub copy-requires : goal.copy-requires
 copy-requires c = omega arith

@@ -14,8 +14,8 @@ returns-then-b-eq41 c = sym (ap (λ (b : ℕ). class_number (class_of b)) c.if-b
 pub returns-then-b-eq32 : goal.returns-then-b-eq32
 returns-then-b-eq32 c = sym (ap (λ (b : ℕ). class_number (class_of b)) c.if-b-eq32.true)
 
-pub returns-then-b-eq10 : goal.returns-then-b-eq10
-returns-then-b-eq10 c = sym (ap (λ (b : ℕ). class_number (class_of b)) c.if-b-eq10.true)
+pub returns-then-newline : goal.returns-then-newline
+returns-then-newline c = sym (ap (λ (b : ℕ). class_number (class_of b)) c.if-newline.true)
 
 pub returns : goal.returns
-returns c = class-other c.args.b c.if-b-eq40.false c.if-b-eq41.false c.if-b-eq32.false c.if-b-eq10.false
+returns c = class-other c.args.b c.if-b-eq40.false c.if-b-eq41.false c.if-b-eq32.false c.if-newline.false
