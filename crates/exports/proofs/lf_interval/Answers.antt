@@ -1,5 +1,6 @@
+use borrow.Author.Rules.{rules}
 use Rattle.exports.proofs.FitLaws.{numbers}
 use Rattle.exports.proofs.lf_interval.Goals as goal
 
 pub returns : goal.returns
-returns c = numbers c.interval.ensures c.answer.ensures
+returns c = search (rules, numbers)
