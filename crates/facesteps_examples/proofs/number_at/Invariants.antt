@@ -1,4 +1,5 @@
-use Rattle.std.proofs.Common.{length, ◌-◌, ⊤}
+use Rattle.std.proofs.Common.{length, ◌-◌}
+use Rattle.std.specs.Prelude.{⊤}
 use Rattle.facesteps_examples.proofs.number_at.Given as goal
 
 abbrev pub invariant-loop-i : goal.invariant-loop-i
