@@ -1,6 +1,6 @@
 /* Linefeijoa: face formulas of cubical type theory, their steps and the step desk.
  *
- * Link with the proved library, x86-64 (`rt staticlib exports` writes it):
+ * Link with the proved library, x86-64 (`bash tools/library/build.sh` writes it):
  *
  *     cc -I include program.c -L target/staticlib -lexports
  *

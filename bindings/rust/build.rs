@@ -1,4 +1,4 @@
-//! Links the proved library: libexports.a in the folder LF_LIBRARY, else where `rt staticlib exports` writes it.
+//! Links the proved library: libexports.a in the folder LF_LIBRARY, else where `tools/library/build.sh` writes it.
 use std::env;
 use std::path::PathBuf;
 
@@ -9,7 +9,7 @@ fn main() {
     let folder = given.map_or_else(|| here.join("../../target/staticlib"), PathBuf::from);
     let Ok(file) = folder.join("libexports.a").canonicalize() else {
         println!(
-            "cargo::error=no libexports.a in {}: write it by `rt staticlib exports` in the repository, or name its folder in LF_LIBRARY",
+            "cargo::error=no libexports.a in {}: write it by `bash tools/library/build.sh` in the repository, or name its folder in LF_LIBRARY",
             folder.display()
         );
         return;

@@ -6,7 +6,7 @@ set -euo pipefail
 here=$(cd "$(dirname "${BASH_SOURCE[0]}")" && pwd)
 root=$(cd "$here/../.." && pwd)
 if [ -z "${LF_LIBRARY:-}" ]; then
-  (cd "$root" && rt staticlib exports)
+  bash "$root/tools/library/build.sh"
 fi
 LF_LIBRARY=$(cd "${LF_LIBRARY:-$root/target/staticlib}" && pwd)
 export LF_LIBRARY
@@ -43,5 +43,5 @@ if said=$(LF_LIBRARY=$CARGO_TARGET_DIR/none CARGO_TARGET_DIR=$CARGO_TARGET_DIR/n
   echo 'a build without the library passed'
   exit 1
 fi
-[[ $said = *'no libexports.a in '*'rt staticlib exports'* ]] || { echo "$said"; exit 1; }
+[[ $said = *'no libexports.a in '*'tools/library/build.sh'* ]] || { echo "$said"; exit 1; }
 echo 'bindings/rust: layout, documentation, tests and example are in order'

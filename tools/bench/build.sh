@@ -1,7 +1,7 @@
 # Builds one program of this folder over bindings/rust, with rustc alone; read by run.sh and desk.sh. Sets $built.
 root=$(cd "$(dirname "${BASH_SOURCE[0]}")/../.." && pwd)
 if [ -z "${LF_LIBRARY:-}" ]; then
-  (cd "$root" && rt staticlib exports)
+  bash "$root/tools/library/build.sh"
 fi
 library=$(cd "${LF_LIBRARY:-$root/target/staticlib}" && pwd)
 cd "$root"

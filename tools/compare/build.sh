@@ -1,13 +1,12 @@
 # Builds the programs that it is given, which ask both sides; read by the scripts here and in tools/bench. Sets $built.
 root=$(cd "$(dirname "${BASH_SOURCE[0]}")/../.." && pwd)
-source=${ORACLE_SOURCE:-$root/../shared/docs/src}
-if ! ORACLE_SOURCE=$(cd "$source" 2>/dev/null && pwd); then
-  echo "no published source at $source; set ORACLE_SOURCE" >&2
+if [ -z "${ORACLE_SOURCE:-}" ] || ! ORACLE_SOURCE=$(cd "$ORACLE_SOURCE" 2>/dev/null && pwd); then
+  echo 'no published source: name its folder src in ORACLE_SOURCE' >&2
   exit 2
 fi
 export ORACLE_SOURCE
 if [ -z "${LF_LIBRARY:-}" ]; then
-  (cd "$root" && rt staticlib exports)
+  bash "$root/tools/library/build.sh"
 fi
 LF_LIBRARY=$(cd "${LF_LIBRARY:-$root/target/staticlib}" && pwd)
 export LF_LIBRARY

@@ -3,7 +3,7 @@
 and the refusals of README.md against docs/REFUSALS.md, word for word.
 
     python3 tools/formats/check.py            the tables against crates/, the worked examples against the tables
-    python3 tools/formats/check.py --call     and the C program of the document, built with gcc and run (after `rt staticlib exports`)
+    python3 tools/formats/check.py --call     and the C program of the document, built with gcc and run (after `bash tools/library/build.sh`)
 
 The rules are compared with three places: names, reference counts and predicates with the table that the code reads
 (crates/kinds/src/table.rt) and with that of the calculus (specs/Table.antt), references and judgements with the rules of the
@@ -154,8 +154,8 @@ def formulas():
             same(f"byte of {name}", found.get(name, (None,))[0], first + i)
     nodes = crate("formula/specs/Bytes.antt")
     shapes = {"leaf": "nothing", "lit": "a dimension", "one": "a formula", "two": "two formulas"}
-    for function, first in (("faceNode", 0), ("intervalNode", 16)):
-        line = re.search(rf"^{function} b = getD \((.*)\) b bad$", nodes, re.M)[1]
+    for function, first in (("face_node", 0), ("interval_node", 16)):
+        line = re.search(rf"^{function} b = get_or \((.*)\) b bad$", nodes, re.M)[1]
         for i, entry in enumerate(x for x in line.split(" ∷ ") if x != "[]"):
             follows = [what for kind, what in found.values() if kind == first + i]
             same(f"what follows byte {first + i}", follows, [shapes[entry.split()[0].strip("(")]])
@@ -181,7 +181,7 @@ def predicates():
     for ours, code in zip(found, theirs):
         same(f"operands of {ours[0]}", [sort.split()[0] for sort in ours[1]], code[1])
     sorts = {"number": "number", "index": "index", "context": "context", "end": "end", "Faces": "face", "Intervals": "interval"}
-    for line in re.findall(r"^fields p(\w+) = (.*)$", crate("calculus/specs/Record.antt"), re.M):
+    for line in re.findall(r"^fields p_(\w+) = (.*)$", crate("calculus/specs/Record.antt"), re.M):
         spec = [sorts[word.split()[-1]] for word in line[1].split(" ∷ ") if word != "[]"]
         same(f"operands of {line[0]}", [sort.split()[0] for sort in dict(found)[line[0].lower()]], spec)
     for name, _, operands, form, _ in table:
@@ -208,7 +208,7 @@ def rules(operands, ranges):
     for kind, at, count, predicate in table:
         name, premises, judgement = found[kind]
         same(f"kind {kind}", (name, len(premises), judgement[0]), (names[places.index(at)], count, order[predicate]))
-    entries = re.findall(r'^ +entry "([^"]+)" (\d) p(\w+)', crate("calculus/specs/Table.antt"), re.M)
+    entries = re.findall(r'^ +entry "([^"]+)" (\d) p_(\w+)', crate("calculus/specs/Table.antt"), re.M)
     same("entries of the calculus", len(entries), 75)
     for kind, (name, count, predicate) in enumerate(entries, 1):
         ours = found[kind]
@@ -245,7 +245,7 @@ def refusals():
 def functions():
     """The C functions with their arguments."""
     theirs = {}
-    for name, arguments in re.findall(r"^pub extern \"C\" fn (\w+)\((.*?)\) -> u64", crate("exports/src/lib.rt"), re.M | re.S):
+    for name, arguments in re.findall(r"^pub extern \"C\" fn (\w+)\((.*?)\) -> u64", crate("exports_c/src/lib.rt"), re.M | re.S):
         theirs[name] = re.findall(r"(\w+): ", arguments)
     ours = {}
     for call, _, _ in rows("Answers of the C functions", 3):

@@ -18,7 +18,7 @@ MEMBER = re.compile(r"\s+(?:pub )?((?:\S+ )+?): ")
 
 def path_of(module):
     """The specs file of a module, or nothing where it is a library's, a proof's or one of src/."""
-    found = re.match(r"Rattle·(\w+?)(?:·specs)?\.specs\.(.+)$", module)
+    found = re.match(r"Rattle\.(\w+)\.specs\.(.+)$", module)
     if not found:
         return None
     path = f"crates/{found[1]}/specs/{found[2].replace('.', '/')}.antt"
@@ -83,9 +83,9 @@ def reach(path, name, reached, declared):
     reached.add((path, index))
     text = "\n".join(file.defs[index]["lines"])
     words = set(re.findall(r"[^\s(){};,\"]+", text))
-    mixfix = {n for n in list(file.owner) + list(file.names) if "_" in n and n.strip("_") in words}
+    mixfix = {n for n in list(file.owner) + list(file.names) if "◌" in n and {p for p in n.split("◌") if p} <= words}
     if "do" in words:
-        mixfix.add("_>>=_")
+        mixfix.add("◌>>=◌")
     for word in words | mixfix:
         tight = word.split(".")
         if word in file.owner:

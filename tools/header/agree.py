@@ -37,7 +37,7 @@ RUST_TYPES = {"const uint8_t *": "*const u8", "uint8_t *": "*mut u8", "size_t ":
 
 def exported():
     out = {}
-    for path in sorted((ROOT / "crates/exports/src").glob("**/*.rt")):
+    for path in sorted((ROOT / "crates/exports_c/src").glob("**/*.rt")):
         for name, args, result in re.findall(r'pub extern "C" fn (\w+)\s*\(([^)]*)\)\s*->\s*(\S+)', path.read_text()):
             parts = []
             for argument in arguments(args):

@@ -6,7 +6,7 @@ set -euo pipefail
 here=$(cd "$(dirname "${BASH_SOURCE[0]}")" && pwd)
 root=$(cd "$here/../.." && pwd)
 if [ -z "${LF_LIBRARY:-}" ]; then
-  (cd "$root" && rt staticlib exports)
+  bash "$root/tools/library/build.sh"
 fi
 library=$(cd "${LF_LIBRARY:-$root/target/staticlib}" && pwd)
 built=$root/target/header

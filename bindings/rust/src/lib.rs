@@ -36,7 +36,7 @@
 //! # The library
 //!
 //! The build looks for `libexports.a` in the folder `LF_LIBRARY`, else in `target/staticlib` of the repository, where
-//! `rt staticlib exports` writes it. It runs on x86-64 Linux.
+//! `bash tools/library/build.sh` writes it. It runs on x86-64 Linux.
 #![deny(missing_docs)]
 #![deny(unsafe_code)]
 

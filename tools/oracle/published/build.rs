@@ -17,13 +17,12 @@ pub fn interval(r: &Interval, depth: usize, nodes: &mut usize) -> Result<()> {
 }
 ";
 
-/// The folder that holds `src/`: the variable, else beside the repository.
+/// The folder `src` of the published source, by the variable.
 fn folder() -> PathBuf {
-    let given = env::var_os("ORACLE_SOURCE").filter(|v| !v.is_empty());
-    let here = PathBuf::from(env::var_os("CARGO_MANIFEST_DIR").unwrap());
-    let path = given.map_or_else(|| here.join("../../../../shared/docs/src"), PathBuf::from);
-    fs::canonicalize(&path)
-        .unwrap_or_else(|e| panic!("no published source at {}: {e}; set ORACLE_SOURCE", path.display()))
+    let Some(path) = env::var_os("ORACLE_SOURCE").filter(|v| !v.is_empty()).map(PathBuf::from) else {
+        panic!("no published source: name its folder src in ORACLE_SOURCE");
+    };
+    fs::canonicalize(&path).unwrap_or_else(|e| panic!("no published source at {}: {e}", path.display()))
 }
 
 /// FNV-1a over the files that are built, to say in reports which source it was.
