@@ -4,7 +4,7 @@
  *
  *     cc -I include program.c -L target/staticlib -lexports
  *
- * It uses memcpy and memset, and nothing else of the C library.
+ * It uses at most memcpy and memset of the C library.
  *
  * A slice is a pointer and a length. Beyond the lent slices a call reads and writes nothing but its stack.
  *  - A slice of length 0 may be NULL; every function takes every length and content.

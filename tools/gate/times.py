@@ -1,8 +1,11 @@
 #!/usr/bin/env python3
-"""Prints where the gate's time goes, as a table, from what `rt ci` printed: times.py LOG [LOG before]
+"""Prints where the gate's time went, as a table, from what the older kit's `rt ci` printed: times.py LOG
 
-For each crate the seconds of its check, of its program's run, and of its must-fail edits (how many, in all, the longest). Crates of
-one level and edits run two at a time, so the sums are larger than the time on the clock."""
+It reads lines such as `rt: formula proved (19 s)` and `rt: must-fail formula/put_at_the_front: refused (27 s)`. Today's
+`rt ci` prints no seconds, and nothing of its log is read here.
+
+For each crate the seconds of its check, of its program's run, and of its must-fail edits (how many, in all, the longest). Crates
+of one level and edits ran two at a time, so the sums are larger than the time on the clock."""
 import re
 import sys
 

@@ -1,7 +1,7 @@
 #!/usr/bin/env python3
 """The programs repeats and stepdesk on files, named pipes and standard input, in a folder of its own.
 
-usage: files.py     after `rt check repeats stepdesk`; prints what differs, and how many cases there were"""
+usage: files.py     after `rt run` in crates/repeats and crates/stepdesk; prints what differs, and how many cases there were"""
 import os
 import pathlib
 import subprocess
@@ -82,7 +82,7 @@ STDIN = [
 
 
 def run(program, args, stdin=b""):
-    done = subprocess.run([ROOT / "target/bin" / program, *args.split()], input=stdin, capture_output=True)
+    done = subprocess.run([ROOT / "crates" / program / "out" / program, *args.split()], input=stdin, capture_output=True)
     return done.stdout.decode()
 
 
