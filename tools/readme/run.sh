@@ -2,7 +2,7 @@
 # Runs every command of README.md, in order, in a clean clone of this repository, and compares what it prints with README.md.
 # usage: run.sh [--gate] [--reuse] [--keep]
 #   --gate     also the commands that are marked as long (the gate itself)
-#   --reuse    the clone gets a copy of this repository's target/, so that proved crates are not proved again
+#   --reuse    the clone gets a copy of what checks kept here (crates/*/out), so that proved crates are not proved again
 #   --keep     the clone stays in target/readme/clone; what each command printed is in target/readme/NUMBER.out in any case
 #
 # The blocks of README.md:
@@ -10,7 +10,7 @@
 #   ```sh gate      the same, run with --gate alone
 #   ```LANG FILE    a file that is written to the clone before the next command
 # In what is printed a first line `..` stands for any lines, and a word N for a number.
-# The commands see the kit's rt, gcc, cargo and rustc and the usual tools of a POSIX system, and no other program.
+# The commands see the kit's rt with its python3, gcc, cargo and rustc and the usual tools of a POSIX system, and no other program.
 # The clone is made of the last commit; what is not committed is not in it.
 set -euo pipefail
 root=$(cd "$(dirname "${BASH_SOURCE[0]}")/../.." && pwd)
@@ -35,10 +35,10 @@ git clone --quiet "$root" "$clone"
 if ! git -C "$root" diff --quiet HEAD -- README.md; then
   echo "README.md has changes that are not committed; the clone has the committed one" >&2
 fi
-if [ -n "$reuse" ] && [ -d "$root/target" ]; then
-  mkdir -p "$clone/target"
-  for part in rlib stamp bin obj log staticlib; do
-    if [ -d "$root/target/$part" ]; then cp -a "$root/target/$part" "$clone/target/"; fi
+if [ -n "$reuse" ]; then
+  for kept in "$root"/crates/*/out; do
+    crate=$(basename "$(dirname "$kept")")
+    if [ -d "$kept" ] && [ -d "$clone/crates/$crate" ]; then cp -a "$kept" "$clone/crates/$crate/"; fi
   done
 fi
 
@@ -49,6 +49,7 @@ sort stat tail tee test touch tr true uname uniq wc xargs'
 for tool in $tools; do
   if at=$(type -P "$tool"); then ln -s "$at" "$room/bin/$tool"; fi
 done
+ln -s "$(python3 -c 'import sys; print(sys.executable)')" "$room/bin/python3"
 
 # README.md cut into blocks: target/readme/NUMBER.info has the words behind the marks, NUMBER.block the lines.
 awk -v room="$room" '
@@ -80,9 +81,9 @@ agrees() {
     }' "$1" "$2"
 }
 
-# Where the kit and cargo are told where they stand, and how many crates are proved at a time.
+# Where cargo is told where it stands, and how many crates are proved at a time.
 passed=()
-for word in RATTLE_HOME RT_JOBS CARGO_HOME RUSTUP_HOME; do
+for word in RT_JOBS CARGO_HOME RUSTUP_HOME; do
   if [ -n "${!word:-}" ]; then passed+=("$word=${!word}"); fi
 done
 
