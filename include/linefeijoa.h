@@ -12,7 +12,7 @@
  *    or both ledgers of lf_repeats. An operand that stands in the ledger is copied before a call on that ledger.
  *  - A function that is lent a ledger reads all of it, zeros included: small ledgers are answered faster.
  *  - Calls keep no state. Threads may call at once, each on slices that no other thread writes meanwhile.
- *  - A call takes at most 1.95 MB of stack (measured, not proved: docs/BENCHMARK.md), so a thread needs
+ *  - A call takes at most 2.51 MB of stack (measured, not proved: docs/BENCHMARK.md), so a thread needs
  *    LF_STACK_BYTES. Each page of a frame is touched in turn, so too small a stack ends at its guard page.
  *
  * Every answer is one number. Refusal q is -q (10 of the desk: below), and then nothing is written, but that 8 and 9
@@ -91,7 +91,7 @@ enum lf_refusal {
 #define LF_MAX_KIND 75               /* kinds of steps are 1 to 75 */
 #define LF_KIND_ENTAILS 30           /* entails.checked, the only kind with an entails judgement */
 #define LF_MAX_CLAIM_LINE_BYTES 4096 /* that lf_facesteps reads, before byte 10 or the end */
-#define LF_STACK_BYTES 2097152       /* for a thread that calls any function: enough in all measurements */
+#define LF_STACK_BYTES 4194304       /* for a thread that calls any function: enough in all measurements */
 
 /* The kind bytes of formulas. A formula is its kind byte, then its parts; d dimensions are 0 to d - 1. */
 enum lf_node {

@@ -29,9 +29,10 @@
 //!
 //! # Stack
 //!
-//! A call takes at most 1.95 MB of stack (measured, not proved: docs/BENCHMARK.md), so it fits a thread of
-//! [`limits::STACK_BYTES`], which is what `std` gives a thread unless it is told otherwise; on a ledger of 65,536 bytes
-//! it takes some 640 KB less. Too small a stack ends the process at the guard page.
+//! A call takes at most 2.51 MB of stack (measured, not proved: docs/BENCHMARK.md), so it fits a thread of
+//! [`limits::STACK_BYTES`]. `std` gives a thread 2 MiB unless it is told otherwise, which is too little for shift and
+//! substitution of formulas that are hundreds of nodes deep, on a ledger of 1,048,576 bytes; on one of 65,536 bytes every
+//! call takes some 640 KB less, and fits. Too small a stack ends the process at the guard page.
 //!
 //! # The library
 //!

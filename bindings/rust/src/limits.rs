@@ -31,4 +31,4 @@ pub const KIND_ENTAILS: u8 = 30;
 /// Bytes of the line that [`facesteps`](crate::facesteps) reads, before byte 10 or the end.
 pub const MAX_CLAIM_LINE_BYTES: usize = 4_096;
 /// Stack of a thread that calls anything here: enough in all measurements.
-pub const STACK_BYTES: usize = 2_097_152;
+pub const STACK_BYTES: usize = 4_194_304;

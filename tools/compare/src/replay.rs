@@ -7,7 +7,7 @@ use judge::call::{Answer, Call};
 use judge::ledger::{self, LONGEST};
 
 /// The stack that the library gets.
-pub const STACK: usize = 2 << 20;
+pub const STACK: usize = linefeijoa::limits::STACK_BYTES;
 
 /// Where a list differs first, and how.
 pub struct Difference {
@@ -122,7 +122,7 @@ fn whole_list(list: &List, run: &Run) -> Result<u64, Difference> {
     Ok(bytes as u64)
 }
 
-/// Asks a list of our library in a thread of 2 MiB of stack; its name says
+/// Asks a list of our library in a thread of [`STACK`]; its name says
 /// which list it was if the stack runs out. The number of bytes compared.
 pub fn replay(name: &str, list: &List, run: &Run) -> Result<u64, Difference> {
     on_stack(STACK, name, || whole_list(list, run))
