@@ -131,7 +131,8 @@ pub fn read_number<R: Read>(input: &mut R) -> io::Result<usize>
 
 // The next n bytes of the input, in the front of the space; all of the space where it is shorter.
 pub fn read_bytes<'a, R: Read>(input: &mut R, space: &'a mut [u8], n: usize) -> io::Result<&'a [u8]>
-    ensures { IfOk result (λ r. n ≤ length space.old → (length r.now ≡ n) × ((k : ℕ) × Gathers (R.remaining input.old) (R.remaining input.new) r.now k true)) }
+    ensures taken { IfOk result (λ r. n ≤ length space.old → (length r.now ≡ n) × ((k : ℕ) × Gathers (R.remaining input.old) (R.remaining input.new) r.now k true)) }
+    ensures short { IfOk result (λ r. length space.old < n → (r.now ≡ space.old) × (R.remaining input.new ≡ R.remaining input.old)) }
 {
     if n <= space.len() {
         let part: &mut [u8] = &mut space[..n];
