@@ -17,7 +17,7 @@ fn back(above: u64) -> u64
     requires { Above above }
     ensures { Back above result }
 {
-    (above >> u64::trailing_zeros(above)) - 1
+    (above >> above.trailing_zeros()) - 1
 }
 
 // Behind a node, by the step over it.
@@ -26,11 +26,9 @@ fn onward(x: Advance, above: u64) -> u64
     ensures { Onward (kind_over x) above result }
 {
     match x {
-        Advance::Leaf(_) => back(above),
-        Advance::Lit(_, _) => back(above),
         Advance::One(_) => 2 * above,
         Advance::Two(_) => 2 * above + 1,
-        Advance::Stuck => back(above),
+        Advance::Leaf(_) | Advance::Lit(_, _) | Advance::Stuck => back(above),
     }
 }
 
