@@ -18,10 +18,7 @@ fn limits(sort: Sort, s: &[u8], z: Size) -> Result<usize, Refusal>
         return Err(Refusal::BeyondProducer);
     }
     let few = z.nodes <= 33;
-    if few {
-        return Ok(z.nodes);
-    }
-    if depths::shallow(sort, s) {
+    if few || depths::shallow(sort, s) {
         return Ok(z.nodes);
     }
     Err(Refusal::BeyondProducer)

@@ -10,7 +10,7 @@ use formula::{Advance, Place, Sort};
 
 // The nodes above the next one are a stack of bits, the lowest node's first: 1 where it waits for its second part. A 1
 // above all of them tells how many there are; where it is this bit or a higher one, that is more than 32.
-const TOO_DEEP: u64 = 8589934592;
+const TOO_DEEP: u64 = 1 << 33;
 
 // Behind a leaf: up to the lowest node that waits, whose second part comes next. Where none waits the formula is at its end.
 fn back(above: u64) -> u64
