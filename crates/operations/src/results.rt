@@ -142,10 +142,7 @@ pub fn boundary(s: &[u8], zero: &mut [u8], one: &mut [u8]) -> Result<Size, Refus
     ensures { AnsweredBoth (boundaried lo s.now) (boundaried hi s.now) zero.old one.old result zero.new one.new }
 {
     let z = boundary_size(s)?;
-    if zero.len() < z.len {
-        return Err(Refusal::ShortOutput);
-    }
-    if one.len() < z.len {
+    if zero.len() < z.len || one.len() < z.len {
         return Err(Refusal::ShortOutput);
     }
     passes::side(s, 0, zero);

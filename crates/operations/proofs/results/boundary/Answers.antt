@@ -6,9 +6,6 @@ use Rattle.operations.proofs.results.boundary.Goals as goal
 pub returns-then-zero-z : goal.returns-then-zero-z
 returns-then-zero-z c = let a = c.args in both-short a.s.now a.zero.now a.one.now c.in_ok-z.ensures (omega arith)
 
-pub returns-then-one-z : goal.returns-then-one-z
-returns-then-one-z c = let a = c.args in both-short a.s.now a.zero.now a.one.now c.in_ok-z.ensures (omega arith)
-
 pub side-requires : goal.side-requires
 side-requires c = let a = c.args in boundary-sided a.s.now c.in_ok-z.ensures 0 (omega arith) _ c.if-zero-z.false
 
