@@ -2,7 +2,10 @@
 use Prim.Native.Nat.{ℕ, suc, ◌+◌, ◌-◌, ◌≤◌, ◌<◌}
 use native.Mathlib.Omega.{arith}
 use mathlib.Core.Path.{◌≡◌, refl, sym, ap, ap₂, ◌∙◌, subst}
-use mathlib.Core.Bool.{Bool, true, false}
+use mathlib.Core.Bool.{Bool, true, false, cond, not}
+use Rattle.std.specs.Prelude.{Some, None, unwrap_or, nat_lt, position}
+use Rattle.std.specs.List.{position_or_len}
+use Rattle.std.proofs.lemmas.List.Recursion.{is_position_or_len}
 use mathlib.Core.List.{List, [], ◌∷◌}
 use lib.Dec.{eqb}
 use lib.ListN.{length, get_or, take, drop, length-drop}
@@ -11,47 +14,34 @@ use borrow.Author.Tests.{eqb-true, eqb-false, eq-eqb, ne_eqb}
 use Rattle.formula.specs.Answers.{pick}
 use Rattle.text.specs.Tokens.{Token, word, class_of, is_spelling, begins_word, before, tokens}
 use Rattle.text.specs.Scanning.{class_number, span_of, between, Lexes}
-use Rattle.text.specs.declared.Token.{Token as Answered}
 use Rattle.text.specs.declared.tokens.Class.{Class}
 use Rattle.text.specs.declared.tokens.Class.TheVariants.{Opening, Closing, Separator, Spelling}
 use Rattle.text.specs.declared.Token.TheVariants.{Open, Close, Word, End}
 
--- The class of a number.
-class-opens : (x : Class) → class_number x ≡ 0 → x ≡ Opening
-class-opens Opening e = refl
-class-opens Closing e = absurd (omega (arith, e))
-class-opens Separator e = absurd (omega (arith, e))
-class-opens Spelling e = absurd (omega (arith, e))
+-- Classes by their numbers.
+class_as : (x y : Class) → class_number x ≡ class_number y → x ≡ y
+class_as Opening Opening e = refl
+class_as Closing Closing e = refl
+class_as Separator Separator e = refl
+class_as Spelling Spelling e = refl
+class_as Opening Closing e = absurd (omega (arith, e))
+class_as Opening Separator e = absurd (omega (arith, e))
+class_as Opening Spelling e = absurd (omega (arith, e))
+class_as Closing Opening e = absurd (omega (arith, e))
+class_as Closing Separator e = absurd (omega (arith, e))
+class_as Closing Spelling e = absurd (omega (arith, e))
+class_as Separator Opening e = absurd (omega (arith, e))
+class_as Separator Closing e = absurd (omega (arith, e))
+class_as Separator Spelling e = absurd (omega (arith, e))
+class_as Spelling Opening e = absurd (omega (arith, e))
+class_as Spelling Closing e = absurd (omega (arith, e))
+class_as Spelling Separator e = absurd (omega (arith, e))
 
-class-closes : (x : Class) → class_number x ≡ 1 → x ≡ Closing
-class-closes Opening e = absurd (omega (arith, e))
-class-closes Closing e = refl
-class-closes Separator e = absurd (omega (arith, e))
-class-closes Spelling e = absurd (omega (arith, e))
-
-class-separates : (x : Class) → class_number x ≡ 2 → x ≡ Separator
-class-separates Opening e = absurd (omega (arith, e))
-class-separates Closing e = absurd (omega (arith, e))
-class-separates Separator e = refl
-class-separates Spelling e = absurd (omega (arith, e))
-
-class-spells : (x : Class) → (class_number x ≡ 0 → ⊥) → (class_number x ≡ 1 → ⊥) → (class_number x ≡ 2 → ⊥) → x ≡ Spelling
+class-spells : (x : Class) → (x ≡ Opening → ⊥) → (x ≡ Closing → ⊥) → (x ≡ Separator → ⊥) → x ≡ Spelling
 class-spells Opening a b c = absurd (a refl)
 class-spells Closing a b c = absurd (b refl)
 class-spells Separator a b c = absurd (c refl)
 class-spells Spelling a b c = refl
-
-spells-number : (x : Class) → class_number x ≡ 3 → is_spelling x ≡ true
-spells-number Opening e = absurd (omega (arith, e))
-spells-number Closing e = absurd (omega (arith, e))
-spells-number Separator e = absurd (omega (arith, e))
-spells-number Spelling e = refl
-
-other-number : (x : Class) → (class_number x ≡ 3 → ⊥) → is_spelling x ≡ false
-other-number Opening e = refl
-other-number Closing e = refl
-other-number Separator e = refl
-other-number Spelling e = absurd (e refl)
 
 -- A list from a place on.
 cons-at : (l : List ℕ) (i : ℕ) → i < length l → drop i l ≡ get_or l i 0 ∷ drop (i + 1) l
@@ -67,22 +57,9 @@ span-no : (c : Class) (b : ℕ) (l : List ℕ) → (class_number (class_of b) �
 unfolding span_of
 span-no c b l e = ap (λ (t : Bool). pick t (suc (span_of c l)) 0) (ne_eqb _ _ e)
 
--- One byte of the class more, its end, and the end of the list.
-pub span-next : (c : Class) (l : List ℕ) (i : ℕ) → i < length l → class_number (class_of (get_or l i 0)) ≡ class_number c → (i + 1) + span_of c (drop (i + 1) l) ≡ i + span_of c (drop i l)
-span-next c l i h e =
-    let p : span_of c (drop i l) ≡ suc (span_of c (drop (i + 1) l)) = ap (span_of c) (cons-at l i h) ∙ span-yes c (get_or l i 0) (drop (i + 1) l) e in
-    omega (arith, p)
-
-pub span-stop : (c : Class) (l : List ℕ) (i : ℕ) → i < length l → (class_number (class_of (get_or l i 0)) ≡ class_number c → ⊥) → i ≡ i + span_of c (drop i l)
-span-stop c l i h e =
-    let p : span_of c (drop i l) ≡ 0 = ap (span_of c) (cons-at l i h) ∙ span-no c (get_or l i 0) (drop (i + 1) l) e in
-    omega (arith, p)
-
-pub span-end : (c : Class) (l : List ℕ) (i : ℕ) → i ≡ length l → i ≡ i + span_of c (drop i l)
-unfolding span_of
-span-end c l i e =
-    let p : span_of c (drop i l) ≡ 0 = ap (λ (k : ℕ). span_of c (drop k l)) e ∙ ap (span_of c) (drop-length l) in
-    omega (arith, p)
+-- Does a byte end a run of the class?
+abbrev pub other : Class → ℕ → Bool
+other c b = not (eqb (class_number (class_of b)) (class_number c))
 
 -- A run ends in the list, and before a byte of another class.
 span-short : (c : Class) (l : List ℕ) → span_of c l ≤ length l
@@ -103,6 +80,29 @@ span-other c (b ∷ l) h e = go (eqb (class_number (class_of b)) (class_number c
     go true p k h e = k (omega (arith, h)) e
     go false p k h e = eqb-false _ _ p e
 
+-- The same run, by the first byte that ends it.
+span-position : (c : Class) (l : List ℕ) → span_of c l ≡ position_or_len (other c) l
+unfolding span_of
+span-position c l = is_position_or_len (span_of c) (other c) refl (λ b m. go (eqb (class_number (class_of b)) (class_number c)) (span_of c m)) l
+  where
+    go : (t : Bool) (n : ℕ) → pick t (suc n) 0 ≡ cond (not t) 0 (1 + n)
+    go true n = omega arith
+    go false n = refl
+
+pub span-found : (c : Class) (l : List ℕ) {n : ℕ} → position (other c) l ≡ Some n → n ≡ span_of c l
+span-found c l {n} e = go (nat_lt (position_or_len (other c) l) (length l)) e
+  where
+    go : (t : Bool) → cond t (Some (position_or_len (other c) l)) None ≡ Some n → n ≡ span_of c l
+    go true p = sym (ap (λ o. unwrap_or o 0) p) ∙ sym (span-position c l)
+    go false p = cc
+
+pub span-none : (c : Class) (l : List ℕ) → position (other c) l ≡ None → span_of c l ≡ length l
+span-none c l e = go (nat_lt (position_or_len (other c) l) (length l)) refl e
+  where
+    go : (t : Bool) → nat_lt (position_or_len (other c) l) (length l) ≡ t → cond t (Some (position_or_len (other c) l)) None ≡ None → span_of c l ≡ length l
+    go true p q = cc
+    go false p q = let k = span-position c l in let h = span-short c l in grind (arith, p, k, h)
+
 -- Tokens -------------------------------------------------------------------------------------------
 
 gap : (l : List ℕ) → tokens l ≡ tokens (drop (span_of Separator l) l)
@@ -111,7 +111,7 @@ gap [] = refl
 gap (b ∷ l) = go (eqb (class_number (class_of b)) (class_number Separator)) refl (gap l)
   where
     go : (t : Bool) → eqb (class_number (class_of b)) (class_number Separator) ≡ t → tokens l ≡ tokens (drop (span_of Separator l) l) → tokens (b ∷ l) ≡ tokens (drop (pick t (suc (span_of Separator l)) 0) (b ∷ l))
-    go true p h = ap (λ (x : Class). before x b (begins_word l) (tokens l)) (class-separates (class_of b) (eqb-true _ _ p)) ∙ h
+    go true p h = ap (λ (x : Class). before x b (begins_word l) (tokens l)) (class_as (class_of b) Separator (eqb-true _ _ p)) ∙ h
     go false p h = refl
 
 spelled : (b : ℕ) (l : List ℕ) → class_of b ≡ Spelling → tokens (b ∷ l) ≡ word (take (span_of Spelling (b ∷ l)) (b ∷ l)) ∷ tokens (drop (span_of Spelling (b ∷ l)) (b ∷ l))
@@ -170,18 +170,18 @@ module _ (l : List ℕ) {i at : ℕ} (inside : i ≤ length l) (gapped : at ≡ 
     unfolding tokens
     byte = ap tokens (cons-at l at here)
 
-    pub lexes-open : class_number (class_of (get_or l at 0)) ≡ 0 → Lexes l i (Open (at + 1))
-    lexes-open e = record { it = (from-gap ∙ byte ∙ ap (λ (x : Class). before x (get_or l at 0) (begins_word (drop (at + 1) l)) (tokens (drop (at + 1) l))) (class-opens (class_of (get_or l at 0)) e), omega (arith, gapped), omega (arith, here)) }
+    pub lexes-open : class_of (get_or l at 0) ≡ Opening → Lexes l i (Open (at + 1))
+    lexes-open e = record { it = (from-gap ∙ byte ∙ ap (λ (x : Class). before x (get_or l at 0) (begins_word (drop (at + 1) l)) (tokens (drop (at + 1) l))) e, omega (arith, gapped), omega (arith, here)) }
 
-    pub lexes-close : class_number (class_of (get_or l at 0)) ≡ 1 → Lexes l i (Close (at + 1))
-    lexes-close e = record { it = (from-gap ∙ byte ∙ ap (λ (x : Class). before x (get_or l at 0) (begins_word (drop (at + 1) l)) (tokens (drop (at + 1) l))) (class-closes (class_of (get_or l at 0)) e), omega (arith, gapped), omega (arith, here)) }
+    pub lexes-close : class_of (get_or l at 0) ≡ Closing → Lexes l i (Close (at + 1))
+    lexes-close e = record { it = (from-gap ∙ byte ∙ ap (λ (x : Class). before x (get_or l at 0) (begins_word (drop (at + 1) l)) (tokens (drop (at + 1) l))) e, omega (arith, gapped), omega (arith, here)) }
 
-    not-gap : class_number (class_of (get_or l at 0)) ≡ 2 → ⊥
+    not-gap : class_of (get_or l at 0) ≡ Separator → ⊥
     not-gap e =
         span-other Separator (drop i l) (omega (arith, gapped, here, length-drop i l))
-        (ap (λ (b : ℕ). class_number (class_of b)) (get_or-drop i l (span_of Separator (drop i l)) 0 ∙ ap (λ (k : ℕ). get_or l k 0) (sym gapped)) ∙ e)
+        (ap (λ (b : ℕ). class_number (class_of b)) (get_or-drop i l (span_of Separator (drop i l)) 0 ∙ ap (λ (k : ℕ). get_or l k 0) (sym gapped)) ∙ ap class_number e)
 
-    pub lexes-word : {e : ℕ} → (class_number (class_of (get_or l at 0)) ≡ 0 → ⊥) → (class_number (class_of (get_or l at 0)) ≡ 1 → ⊥) → e ≡ at + span_of Spelling (drop at l) → Lexes l i (Word at e)
+    pub lexes-word : {e : ℕ} → (class_of (get_or l at 0) ≡ Opening → ⊥) → (class_of (get_or l at 0) ≡ Closing → ⊥) → e ≡ at + span_of Spelling (drop at l) → Lexes l i (Word at e)
     lexes-word {e} p q r =
         let s = class-spells (class_of (get_or l at 0)) p q not-gap in
         let d = cons-at l at here in
@@ -191,7 +191,3 @@ module _ (l : List ℕ) {i at : ℕ} (inside : i ≤ length l) (gapped : at ≡ 
         let u : take (span_of Spelling (drop at l)) (drop at l) ≡ between at e l = ap (λ (k : ℕ). take k (drop at l)) m in
         let v : drop (span_of Spelling (drop at l)) (drop at l) ≡ drop e l = drop-drop (span_of Spelling (drop at l)) at l ∙ ap (λ (k : ℕ). drop k l) (sym r) in
         record { it = (from-gap ∙ t ∙ ap₂ (λ (w m : List ℕ). word w ∷ tokens m) u v, omega (arith, gapped), omega (arith, r, n), omega (arith, r, span-short Spelling (drop at l), length-drop at l)) }
-
--- What was answered, by its case.
-pub lexed : {l : List ℕ} {i : ℕ} {r t : Answered} → Lexes l i r → r ≡ t → Lexes l i t
-lexed {l} {i} h e = subst (Lexes l i) e h

@@ -7,7 +7,7 @@ use Rattle.formula.specs.Bytes.{encode}
 use Rattle.formula.specs.Answers.{pick}
 use Rattle.refusals.specs.declared.Refusal.{Refusal}
 use Rattle.refusals.specs.declared.Refusal.TheVariants.{ShortOutput}
-use Rattle.refusals.specs.Refusals.{Result as Asked, refused, done, map}
+use Rattle.refusals.specs.Refusals.{map}
 use Rattle.text.specs.Reading.{read_formula, Claimed, read_claim}
 use Rattle.text.specs.declared.Claim.{Claim}
 
@@ -17,9 +17,9 @@ pub record Delivered : Type 0 where
   pub output : List ℕ
 
 -- What was made stands in front of the output where it fits; else 6, and every byte stays.
-abbrev pub delivered : Asked (List ℕ) → List ℕ → Delivered
-delivered (refused e) out = record { answer = Err e; output = out }
-delivered (done x) out = pick (leb (length x) (length out)) (record { answer = Ok (length x); output = sets out 0 x }) (record { answer = Err ShortOutput; output = out })
+abbrev pub delivered : Result (List ℕ) Refusal → List ℕ → Delivered
+delivered (Err e) out = record { answer = Err e; output = out }
+delivered (Ok x) out = pick (leb (length x) (length out)) (record { answer = Ok (length x); output = sets out 0 x }) (record { answer = Err ShortOutput; output = out })
 
 -- The answer and every byte of the output are those for the formula that the text is.
 pub record ReadsInto (s : Sort) (text out : List ℕ) (r : Result ℕ Refusal) (out' : List ℕ) : Type 0 where
@@ -39,9 +39,9 @@ both_put d x y a b =
     (record { answer = Err ShortOutput; left = a; right = b })
 
 -- What is delivered of a claim.
-abbrev pub both_delivered : Asked Claimed → List ℕ → List ℕ → BothDelivered
-both_delivered (refused e) a b = record { answer = Err e; left = a; right = b }
-both_delivered (done c) a b = both_put c.dimensions (encode Faces c.left) (encode Faces c.right) a b
+abbrev pub both_delivered : Result Claimed Refusal → List ℕ → List ℕ → BothDelivered
+both_delivered (Err e) a b = record { answer = Err e; left = a; right = b }
+both_delivered (Ok c) a b = both_put c.dimensions (encode Faces c.left) (encode Faces c.right) a b
 
 -- The answer and every byte of both outputs are those for the claim that the text is.
 pub record ReadsClaim (text a b : List ℕ) (r : Result Claim Refusal) (a' b' : List ℕ) : Type 0 where

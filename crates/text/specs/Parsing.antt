@@ -5,7 +5,7 @@ use Rattle.formula.specs.declared.Sort.{Sort}
 use Rattle.formula.specs.Bytes.{Tree, dim_bytes, dim_width, encode, nodes, bound, max_bound}
 use Rattle.refusals.specs.declared.Refusal.{Refusal}
 use Rattle.refusals.specs.declared.Refusal.TheVariants.{TooManyNodes}
-use Rattle.refusals.specs.Refusals.{Result as Asked, refused, map}
+use Rattle.refusals.specs.Refusals.{map}
 use Rattle.text.specs.Tokens.{tokens}
 use Rattle.text.specs.Words.{node_named}
 use Rattle.text.specs.Reading.{Item, part, part_list, number, close, Values, bare_node, list_node, max_dim, run}
@@ -61,10 +61,10 @@ pub record Heads (k : ℕ) (c : Cursor) (out : List ℕ) (r : Result Cursor Refu
 
 -- A reader of a shape, with whatever is expected behind it.
 abbrev pub ShapeReader : Shape → Type 0
-ShapeReader x = (K : List Item) → Asked (Thing x × Values K)
+ShapeReader x = (K : List Item) → Result (Thing x × Values K) Refusal
 
 -- What follows the cursor.
-abbrev pub from : List ℕ → Cursor → (K : List Item) → Asked (Values K)
+abbrev pub from : List ℕ → Cursor → (K : List Item) → Result (Values K) Refusal
 from l c K = run (tokens (drop c.at l)) c.left K
 
 -- A part from the cursor on; one whose list opened before; the last part of a list, both parts, or the dimension of one.
@@ -104,7 +104,7 @@ pub record Found (x : Shape) (F : ShapeReader x) (l : List ℕ) (c : Cursor) (ou
 -- What the reader of a shape answers.
 abbrev pub ParsesAs : (x : Shape) → ShapeReader x → List ℕ → Cursor → List ℕ → Result Cursor Refusal → List ℕ → Type 0
 ParsesAs x F l c out (Ok c') out' = Found x F l c out c' out'
-ParsesAs x F l c out (Err q) out' = (K : List Item) → F K ≡ refused q
+ParsesAs x F l c out (Err q) out' = (K : List Item) → F K ≡ Err q
 
 pub record Parses (x : Shape) (F : ShapeReader x) (l : List ℕ) (c : Cursor) (out : List ℕ) (r : Result Cursor Refusal) (out' : List ℕ) : Type 0 where
   pub it : ParsesAs x F l c out r out'
@@ -119,7 +119,7 @@ pub record EndFound (l : List ℕ) (c c' : Cursor) : Type 0 where
 
 abbrev pub EndsAs : List ℕ → Cursor → Result Cursor Refusal → Type 0
 EndsAs l c (Ok c') = EndFound l c c'
-EndsAs l c (Err q) = (K : List Item) → from l c (close ∷ K) ≡ refused q
+EndsAs l c (Err q) = (K : List Item) → from l c (close ∷ K) ≡ Err q
 
 pub record Ends (l : List ℕ) (c : Cursor) (r : Result Cursor Refusal) : Type 0 where
   pub it : EndsAs l c r

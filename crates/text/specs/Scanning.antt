@@ -2,7 +2,7 @@
 use Rattle.std.specs.Prelude.{ℕ, suc, ◌-◌, ◌≤◌, ◌<◌, ◌≡◌, Result, Ok, Err, List, [], ◌∷◌, eqb, length, take, drop}
 use Rattle.formula.specs.Answers.{pick}
 use Rattle.refusals.specs.declared.Refusal.{Refusal}
-use Rattle.refusals.specs.Refusals.{Result as Asked, refused, map}
+use Rattle.refusals.specs.Refusals.{map}
 use Rattle.text.specs.Tokens.{opening, closing, word, class_of, tokens}
 use Rattle.text.specs.Reading.{Item, number, number_list, close, Values, succeeded, run}
 use Rattle.text.specs.declared.Token.{Token}
@@ -40,14 +40,14 @@ pub record Lexes (l : List ℕ) (i : ℕ) (r : Token) : Type 0 where
 -- A closing parenthesis from place i on, where one is expected.
 abbrev pub ClosesAs : List ℕ → ℕ → Result ℕ Refusal → Type 0
 ClosesAs l i (Ok e) = ((n : ℕ) (K : List Item) → run (tokens (drop i l)) n (close ∷ K) ≡ run (tokens (drop e l)) n K) × (i < e) × (e ≤ length l)
-ClosesAs l i (Err q) = (n : ℕ) (K : List Item) → run (tokens (drop i l)) n (close ∷ K) ≡ refused q
+ClosesAs l i (Err q) = (n : ℕ) (K : List Item) → run (tokens (drop i l)) n (close ∷ K) ≡ Err q
 
 pub record Closes (l : List ℕ) (i : ℕ) (r : Result ℕ Refusal) : Type 0 where
   pub it : ClosesAs l i r
 
 -- A reader of a number, with whatever is expected behind it.
 abbrev pub NumberReader : Type 0
-NumberReader = (n : ℕ) (K : List Item) → Asked (ℕ × Values K)
+NumberReader = (n : ℕ) (K : List Item) → Result (ℕ × Values K) Refusal
 
 -- A number from place i on; one whose list opened before; the end of the list of m; one more than the number from place i on.
 abbrev pub number_at : List ℕ → ℕ → ℕ → NumberReader
@@ -72,7 +72,7 @@ pub record NumberRead (F : NumberReader) (l : List ℕ) (i most m e : ℕ) : Typ
 -- What the reader of a number answers.
 abbrev pub NumeralsAs : NumberReader → List ℕ → ℕ → ℕ → Result Numeral Refusal → Type 0
 NumeralsAs F l i most (Ok m) = NumberRead F l i most m.n m.end
-NumeralsAs F l i most (Err q) = (n : ℕ) (K : List Item) → F n K ≡ refused q
+NumeralsAs F l i most (Err q) = (n : ℕ) (K : List Item) → F n K ≡ Err q
 
 pub record Numerals (F : NumberReader) (l : List ℕ) (i most : ℕ) (r : Result Numeral Refusal) : Type 0 where
   pub it : NumeralsAs F l i most r

@@ -1,10 +1,9 @@
 -- The words of texts.
-use Rattle.std.specs.Prelude.{ℕ, suc, ◌+◌, Option, None, Some, List, [], ◌∷◌}
-use Rattle.std.specs.Option.{option_map}
+use Rattle.std.specs.Prelude.{ℕ, ◌+◌, Option, None, Some, option_map, List, [], ◌∷◌, position}
 use Rattle.formula.specs.declared.Sort.{Sort}
 use Rattle.formula.specs.declared.Sort.TheVariants.{Faces, Intervals}
 use Rattle.formula.specs.Bytes.{Tree, Node, bad, node_of}
-use Rattle.formula.specs.Answers.{pick, same_bytes}
+use Rattle.formula.specs.Answers.{same_bytes}
 use Rattle.calculus.specs.Table.{text_bytes}
 
 -- The names of the nodes of a sort, in the order of their kind bytes.
@@ -17,23 +16,18 @@ abbrev pub first_kind : Sort → ℕ
 first_kind Faces = 0
 first_kind Intervals = 16
 
--- The place of a word in a list of names, if it is one of them.
-abbrev pub place_of : List ℕ → List (List ℕ) → Option ℕ
-place_of w [] = None
-place_of w (x ∷ xs) = pick (same_bytes x w) (Some 0) (option_map suc (place_of w xs))
-
 -- The kind byte that a word names in a sort.
 unfoldable pub kind_named : Sort → List ℕ → Option ℕ
-kind_named s w = option_map (λ k. first_kind s + k) (place_of w (names s))
+kind_named s w = option_map (λ k. first_kind s + k) (position (λ x. same_bytes x w) (names s))
 
 -- The node of a kind byte, where there is one.
-abbrev pub node_at : (s : Sort) → Option ℕ → Node (Tree s)
-node_at s None = bad
-node_at s (Some k) = node_of s k
+abbrev pub node_if : (s : Sort) → Option ℕ → Node (Tree s)
+node_if s None = bad
+node_if s (Some k) = node_of s k
 
 -- The node that a word names.
 abbrev pub node_named : (s : Sort) → List ℕ → Node (Tree s)
-node_named s w = node_at s (kind_named s w)
+node_named s w = node_if s (kind_named s w)
 
 -- The words of unary numbers.
 abbrev pub zero_word : List ℕ

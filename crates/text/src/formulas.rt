@@ -8,7 +8,7 @@ use refusals::Refusal;
 
 // One node more, whose kind byte is written.
 fn head(kind: u8, c: Cursor, out: &mut [u8]) -> Result<Cursor, Refusal>
-    requires { c.to + 3 * c.left ≤ length out.old }
+    requires { 0 < c.left → c.to < length out.old }
     ensures { Heads kind c out.old result out.new }
 {
     if c.left == 0 {
@@ -75,7 +75,7 @@ pub(crate) fn expression(
     match tokens::token_at(text, c.at) {
         Token::Open(at) => list(text, sort, Cursor { at, ..c }, out),
         Token::Word(from, at) => bare(text, sort, from, Cursor { at, ..c }, out),
-        Token::Close(_) | Token::End => Err(Refusal::NotAccepted),
+        _ => Err(Refusal::NotAccepted),
     }
 }
 

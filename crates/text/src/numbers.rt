@@ -28,7 +28,7 @@ pub(crate) fn number(text: &[u8], at: usize, most: usize) -> Result<Numeral, Ref
             }
             Err(Refusal::NotAccepted)
         }
-        Token::Close(_) | Token::End => Err(Refusal::NotAccepted),
+        _ => Err(Refusal::NotAccepted),
     }
 }
 

@@ -14,7 +14,7 @@ fn ended(text: &[u8], c: Cursor) -> Result<Cursor, Refusal>
 {
     match tokens::token_at(text, c.at) {
         Token::End => Ok(c),
-        Token::Open(_) | Token::Close(_) | Token::Word(_, _) => Err(Refusal::NotAccepted),
+        _ => Err(Refusal::NotAccepted),
     }
 }
 
@@ -36,12 +36,10 @@ fn whole(text: &[u8], sort: Sort, at: usize, made: &mut [u8]) -> Result<Cursor, 
 fn deliver(x: &[u8], out: &mut [u8]) -> Result<usize, Refusal>
     ensures { Delivers x.now out.old result out.new }
 {
-    let n = x.len();
-    if out.len() < n {
-        return Err(Refusal::ShortOutput);
+    if formula::put(x, out, 0) {
+        return Ok(x.len());
     }
-    out[..n].copy_from_slice(x);
-    Ok(n)
+    Err(Refusal::ShortOutput)
 }
 
 // The formula that a text is: its bytes stand in front of the output.
@@ -114,8 +112,8 @@ fn deliver_both(d: usize, x: &[u8], y: &[u8], a: &mut [u8], b: &mut [u8]) -> Res
     if short {
         return Err(Refusal::ShortOutput);
     }
-    a[..left].copy_from_slice(x);
-    b[..right].copy_from_slice(y);
+    formula::copy(x, a, 0);
+    formula::copy(y, b, 0);
     Ok(Claim { d, left, right })
 }
 

@@ -1,7 +1,7 @@
 // The words of texts.
 ghost use Rattle.std.specs.Prelude.{◌≡◌, map};
 ghost use Rattle.formula.specs.Answers.{same_bytes};
-ghost use Rattle.text.specs.Words.{names, place_of, kind_named, zero_word, succ-word, entails-word};
+ghost use Rattle.text.specs.Words.{names, kind_named, zero_word, succ-word, entails-word};
 
 use formula::Sort;
 
