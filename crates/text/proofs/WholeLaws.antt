@@ -2,7 +2,7 @@
 use Prim.Native.Nat.{ℕ, ◌+◌, ◌≤◌, ◌<◌}
 use native.Mathlib.Omega.{arith}
 use native.Mathlib.Nat.{zero-add}
-use mathlib.Core.Path.{◌≡◌, refl, sym, ap, ap₂, ◌∙◌}
+use mathlib.Core.Path.{◌≡◌, refl, sym, ap, ap₂, ◌∙◌, subst}
 use mathlib.Core.Bool.{Bool, true, false, ◌&&◌}
 use mathlib.Core.List.{List, [], ◌∷◌}
 use lib.Dec.{leb}
@@ -39,9 +39,9 @@ not-end (Close e) h f = record { it = λ n. ap (λ (ts : List Token). run ts n [
 not-end (Word b e) h f = record { it = λ n. ap (λ (ts : List Token). run ts n []) h.it.0 }
 not-end End h f = absurd (f refl)
 
-pub at-end : {l : List ℕ} {c : Cursor} → Lexes l c.at End → Finishes l c (Ok c)
+pub at-end : {l : List ℕ} {c : Cursor} {t : Answered} → Lexes l c.at t → t ≡ End → Finishes l c (Ok c)
 unfolding run
-at-end h = record { it = (λ n. ap (λ (ts : List Token). run ts n []) h.it, refl) }
+at-end {l} {c} h e = let g = subst (Lexes l c.at) e h in record { it = (λ n. ap (λ (ts : List Token). run ts n []) g.it, refl) }
 
 -- A formula's nodes are counted anew.
 pub formula-part : (ts : List Token) (n : ℕ) (s : Sort) (K : List Item) → run ts n (formula s ∷ K) ≡ run ts max_nodes (part s ∷ K)

@@ -8,6 +8,7 @@ mod tokens;
 mod words;
 
 pub use reads::{read_claim, read_formula};
+pub use words::{first_kind, names};
 
 // A claim: d and the lengths of its two faces.
 #[derive(Clone, Copy)]

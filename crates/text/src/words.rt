@@ -1,12 +1,22 @@
 // The words of texts.
 ghost use Rattle.std.specs.Prelude.{◌≡◌, map};
 ghost use Rattle.formula.specs.Answers.{same_bytes};
-ghost use Rattle.text.specs.Words.{names, kind_named, zero_word, succ-word, entails-word};
+ghost use Rattle.text.specs.Words.{first_kind, names, kind_named, zero_word, succ-word, entails-word};
 
 use formula::Sort;
 
+// The first kind byte of a sort.
+pub fn first_kind(sort: Sort) -> u8
+    ensures { result ≡ first_kind sort }
+{
+    match sort {
+        Sort::Faces => 0,
+        Sort::Intervals => 16,
+    }
+}
+
 // The names of the nodes of a sort, in the order of their kind bytes.
-fn names(sort: Sort) -> [&'static [u8]; 6]
+pub fn names(sort: Sort) -> [&'static [u8]; 6]
     ensures { map (λ x. x.now) result ≡ names sort }
 {
     match sort {
@@ -20,11 +30,7 @@ pub(crate) fn kind_named(sort: Sort, w: &[u8]) -> Option<u8>
     ensures { result ≡ kind_named sort w.now }
 {
     let place = names(sort).iter().position(|name| *name == w)?;
-    let first = match sort {
-        Sort::Faces => 0,
-        Sort::Intervals => 16,
-    };
-    Some(first + place as u8)
+    Some(first_kind(sort) + place as u8)
 }
 
 // Whether a word is z.

@@ -2,7 +2,7 @@ use Rattle.text.proofs.WholeLaws.{not-end, at-end}
 use Rattle.text.proofs.reads.ended.Goals as goal
 
 pub returns-in-End : goal.returns-in-End
-returns-in-End c = at-end c.in-End.ensures
+returns-in-End c = at-end c.token_at.ensures c.in-End.is
 
 pub returns-in_default : goal.returns-in_default
 returns-in_default c = not-end c.token_at.result c.token_at.ensures c.in_default.not-End

@@ -6,7 +6,7 @@ use Rattle.formula.specs.Answers.{same_bytes}
 use Rattle.formula.proofs.ByteLaws.{same-pointwise}
 use Rattle.text.specs.Words.{names, kind_named, first_kind}
 use Rattle.text.proofs.WordLaws.{position-map}
-use Rattle.text.proofs.words.kind_named.Goals.{After-position, in-Faces, in-Intervals}
+use Rattle.text.proofs.words.kind_named.Goals.{After-position}
 use Rattle.text.proofs.words.kind_named.Goals as goal
 
 found : (c : After-position) → c.position.result ≡ position (λ x. same_bytes x c.args.w.now) (names c.args.sort)
@@ -18,6 +18,4 @@ returns-in_err-place c = c.from_residual.ensures ∙ ap (option_map (λ k. first
 
 pub returns : goal.returns
 unfolding kind_named
-returns c =
-    let first : c.match-sort.first ≡ first_kind c.args.sort = elim c.match-sort.branch [ in-Faces w ↦ w.first-is ∙ ap first_kind (sym w.in-Faces.is) | in-Intervals w ↦ w.first-is ∙ ap first_kind (sym w.in-Intervals.is) ] in
-    ap (λ n. Some (n + c.in_ok-place.place)) first ∙ ap (option_map (λ k. first_kind c.args.sort + k)) (sym c.in_ok-place.was ∙ found (goal.at.returns c).After-position)
+returns c = ap (λ n. Some (n + c.in_ok-place.place)) c.first_kind.ensures ∙ ap (option_map (λ k. first_kind c.args.sort + k)) (sym c.in_ok-place.was ∙ found (goal.at.returns c).After-position)
