@@ -16,7 +16,7 @@ use Rattle.calculus.specs.Table.{predicate}
 use Rattle.calculus.specs.Rules.{step_at, judgement_at}
 use Rattle.calculus.specs.Record.{operand_bytes}
 use Rattle.kinds.specs.Kinds.{number_of}
-use Rattle.std.specs.Prelude.{Option as Found, Some, None, Result, Ok, Err}
+use Rattle.std.specs.Prelude.{Option as Found, Some, None, Ok, Err}
 use Rattle.index.specs.Finding.{same_step, first, find_bytes, found_as}
 use Rattle.index.specs.Index.{choose, bucket_of, bucket_at, last}
 

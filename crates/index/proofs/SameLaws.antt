@@ -21,7 +21,7 @@ use Rattle.kinds.specs.Kinds.{number_of, predicate_of}
 use Rattle.kinds.proofs.KindLaws.{numbered}
 use Rattle.ledger.specs.Ledger.{steps_of, place_of, Points}
 use Rattle.ledger.proofs.PointLaws.{inside, points-operands}
-use Rattle.std.specs.Prelude.{Result, Ok, Err}
+use Rattle.std.specs.Prelude.{Ok, Err}
 use Rattle.index.specs.Finding.{same_step, first, find_bytes, found_as}
 
 -- Whether a step has the predicate and the operands.

@@ -1,9 +1,7 @@
 use Rattle.std.proofs.Common.{rules}
 use native.Mathlib.Omega.{arith}
-use mathlib.Core.Path.{ap, ◌∙◌, subst}
+use mathlib.Core.Path.{◌∙◌, subst}
 use Prim.Native.Nat.{ℕ, ◌+◌, ◌<◌}
-use lib.ListN.{length, replicate}
-use lib.Seq.{length-sets}
 use Rattle.ledger.proofs.PointLaws.{walks-points, walks-forward}
 use Rattle.index.proofs.BuildLaws.{build-start, build-turn, zeroed-length, built}
 use Rattle.index.proofs.pass.build.Goals as goal

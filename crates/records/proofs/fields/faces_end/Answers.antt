@@ -1,5 +1,5 @@
 -- The faces that are left, behind those counted, end where the whole context does.
-use Rattle.std.proofs.Common.{arith, ◌≡◌, ◌+◌, ◌-◌, ℕ, max, sym, ap, ap₂, ◌∙◌}
+use Rattle.std.proofs.Common.{arith, ◌≡◌, ◌+◌, ◌-◌, ℕ, sym, ap, ap₂, ◌∙◌}
 use native.Mathlib.Nat.{sub-zero}
 use Rattle.formula.specs.declared.Sort.TheVariants.{Faces}
 use Rattle.formula.specs.declared.Size.{Size}

@@ -1,5 +1,5 @@
 -- The references that are left end where all of them do.
-use Rattle.std.proofs.Common.{arith, ◌≡◌, ◌+◌, ◌-◌, ◌≤◌, ℕ, drop, sym, ap, ◌∙◌}
+use Rattle.std.proofs.Common.{arith, ◌≡◌, ◌+◌, ◌-◌, ℕ, drop, sym, ap, ◌∙◌}
 use Rattle.calculus.specs.Parse.{read_references}
 use Rattle.records.specs.Places.{ended}
 use Rattle.records.proofs.FieldLaws.{references-short, references-late, references-turn, references-none}
