@@ -3,18 +3,24 @@ use Prim.Native.Nat.{ℕ, suc, ◌+◌, ◌-◌, ◌≤◌, ◌<◌, Ordering}
 use native.Mathlib.Numerals.{add-one}
 use native.Mathlib.Omega.{arith}
 use mathlib.Core.Path.{◌≡◌, refl, sym, ap, ap₂, ◌∙◌}
-use mathlib.Core.Bool.{Bool, true, false, ◌||◌}
+use mathlib.Core.Bool.{Bool, true, false, not, ◌||◌}
 use mathlib.Core.List.{List, [], ◌∷◌, ◌++◌, append-nil, append_assoc}
 use lib.ListN.{length, get_or, set, take, drop, length-append, length-drop, take-append-drop, drop_of_length-le}
 use lib.Seq.{paste, length-take-le, drop-cons, append_snoc, take-set-le, take-set-lt, take-suc-set, take-take, take_at, set-append_left}
 use Rattle.std.proofs.Common.{rules, Ok, Err}
 use Rattle.std.proofs.lemmas.Slice.{between_is}
 use Rattle.std.proofs.lemmas.List.{take_more, take_all}
+use mir.Val.{bool_byte}
+use Rattle.std.specs.List.{list_any}
 use Rattle.formula.specs.Formula.{beside}
 use Rattle.formula.specs.Answers.{pick}
 use Rattle.clauses.specs.Normal.{enter, entered, any, minimal, least_of}
 use Rattle.clauses.proofs.Lengths.{enter-length}
 use Rattle.clauses.specs.Lists.{Searches, over, Leads, Fronts}
+
+-- What stands from a place on.
+pub item : {A : Type 0} (l : List A) (i : ℕ) (d : A) → i < length l → drop i l ≡ get_or l i d ∷ drop (i + 1) l
+item l i d h = drop-cons l i d h ∙ ap (λ n. get_or l i d ∷ drop n l) (sym (add-one i))
 
 -- ---- a search for the place of an element
 
@@ -31,11 +37,8 @@ module _ {A : Type 0} (order : A → A → Ordering) (x : A) where
   seeking-start = record { left = refl }
 
   module _ {l : List A} {i : ℕ} (s : Seeking l i) where
-    at : (d : A) → i < length l → drop i l ≡ get_or l i d ∷ drop (i + 1) l
-    at d h = drop-cons l i d h ∙ ap (λ n. get_or l i d ∷ drop n l) (sym (add-one i))
-
     turned : {o : Ordering} (d : A) → i < length l → order x (get_or l i d) ≡ o → enter order x l ≡ take i l ++ beside o (x ∷ drop i l) (drop i l) (get_or l i d ∷ enter order x (drop (i + 1) l))
-    turned {o} d h e = s.left ∙ ap (λ m. take i l ++ m) (ap (enter order x) (at d h) ∙ enter-by (get_or l i d) (drop (i + 1) l) e ∙ ap (λ m. beside o (x ∷ m) m (get_or l i d ∷ enter order x (drop (i + 1) l))) (sym (at d h)))
+    turned {o} d h e = s.left ∙ ap (λ m. take i l ++ m) (ap (enter order x) (item l i d h) ∙ enter-by (get_or l i d) (drop (i + 1) l) e ∙ ap (λ m. beside o (x ∷ m) m (get_or l i d ∷ enter order x (drop (i + 1) l))) (sym (item l i d h)))
 
     pub seeking-before : (d : A) → i < length l → order x (get_or l i d) ≡ Ordering.lt → Searches order x l (Err i)
     seeking-before d h e = record { entered = turned d h e; inside = omega arith }
@@ -97,7 +100,7 @@ module _ {A : Type 0} {order : A → A → Ordering} {xs s : List A} {k i : ℕ}
   unfolding entered
   sorting-next d h m f = record {
     few = omega (arith, f.many, enter-length order (get_or xs i d) (take k s), length-take-le k s m, t.few);
-    left = t.left ∙ ap (entered order (take k s)) (drop-cons xs i d h ∙ ap (λ n. get_or xs i d ∷ drop n xs) (sym (add-one i))) ∙ ap (λ y. entered order y (drop (i + 1) xs)) (sym (leads-front f));
+    left = t.left ∙ ap (entered order (take k s)) (item xs i d h) ∙ ap (λ y. entered order y (drop (i + 1) xs)) (sym (leads-front f));
   }
 
   pub sorting-end : length xs ≤ i → k ≤ length s → Fronts (entered order [] xs) k s
@@ -105,6 +108,11 @@ module _ {A : Type 0} {order : A → A → Ordering} {xs s : List A} {k i : ℕ}
   sorting-end h m = record { fits = m; here = sym (t.left ∙ ap (entered order (take k s)) (drop_of_length-le xs {i = i} h)) }
 
 -- ---- the minimal ones kept
+
+-- What is counted of an element, unless it is dropped.
+pub counted-unless : (dropped : Bool) {w : ℕ} → w ≡ bool_byte (not dropped) → w ≡ pick dropped 0 1
+counted-unless true e = e
+counted-unless false e = e
 
 -- An element written behind others, whether it counts or not.
 pub written : {A : Type 0} (l : List A) (to : ℕ) (x : A) (dropped : Bool) {w : ℕ} → to < length l → w ≡ pick dropped 0 1 → take (to + w) (set l to x) ≡ take to l ++ pick dropped [] (x ∷ [])
@@ -141,7 +149,7 @@ module _ {A : Type 0} {below : A → A → Bool} {xs l : List A} {m i : ℕ} (t 
         few = omega (arith, t.few, counted b o);
         left =
             t.left
-            ∙ ap (λ y. take m l ++ minimal below xs y) (drop-cons xs i d h ∙ ap (λ n. x ∷ drop n xs) (sym (add-one i)))
+            ∙ ap (λ y. take m l ++ minimal below xs y) (item xs i d h)
             ∙ ap (λ y. take m l ++ y) (minimal-cons below xs x (drop (i + 1) xs) ∙ ap (λ y. pick y [] (x ∷ []) ++ rest) (sym r))
             ∙ sym (append_assoc (take m l) (pick b [] (x ∷ [])) rest)
             ∙ ap (λ y. y ++ rest) (sym (written l m x b k o));
@@ -151,30 +159,8 @@ module _ {A : Type 0} {below : A → A → Bool} {xs l : List A} {m i : ℕ} (t 
   unfolding minimal
   keeping-end h k = record { fits = k; here = sym (t.left ∙ ap (λ y. take m l ++ minimal below xs y) (drop_of_length-le xs {i = i} h) ∙ append-nil (take m l)) }
 
--- ---- a scan for an element that passes a test
-
--- None of the first i elements passes.
-pub record Scanned {A : Type 0} (test : A → Bool) (xs : List A) (i : ℕ) : Type 0 where
-  pub left : any test xs ≡ any test (drop i xs)
-
-or-by : (a b : Bool) {c : Bool} → a ≡ c → (a || b) ≡ (c || b)
-or-by a b e = ap (λ x. x || b) e
-
-module _ {A : Type 0} {test : A → Bool} {xs : List A} where
-  pub scan-start : Scanned test xs 0
-  scan-start = record { left = refl }
-
-  module _ {i : ℕ} (s : Scanned test xs i) where
-    turn : {c : Bool} (d : A) → i < length xs → test (get_or xs i d) ≡ c → any test xs ≡ (c || any test (drop (i + 1) xs))
-    unfolding any
-    turn d h e = s.left ∙ ap (any test) (drop-cons xs i d h ∙ ap (λ n. get_or xs i d ∷ drop n xs) (sym (add-one i))) ∙ or-by (test (get_or xs i d)) (any test (drop (i + 1) xs)) e
-
-    pub scan-found : (d : A) → i < length xs → test (get_or xs i d) ≡ true → any test xs ≡ true
-    scan-found d h e = turn d h e
-
-    pub scan-next : (d : A) → i < length xs → test (get_or xs i d) ≡ false → Scanned test xs (i + 1)
-    scan-next d h e = record { left = turn d h e }
-
-    pub scan-end : length xs ≤ i → any test xs ≡ false
-    unfolding any
-    scan-end h = s.left ∙ ap (any test) (drop_of_length-le xs {i = i} h)
+-- The library's test for an element that passes is this one.
+pub any-is : {A : Type 0} (test : A → Bool) (xs : List A) → any test xs ≡ list_any test xs
+unfolding any
+any-is test [] = refl
+any-is test (x ∷ xs) = ap (λ b. test x || b) (any-is test xs)

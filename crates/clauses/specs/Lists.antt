@@ -39,14 +39,20 @@ pub record Fronts {A : Type 0} (xs : List A) (n : ℕ) (l : List A) : Type 0 whe
   pub here : take n l ≡ xs
 
 -- Where there is a list, the first elements of the slice are it, as many as is answered; else nothing is answered.
-abbrev pub Lists : {A : Type 0} → Math.Option (List A) → Option ℕ → List A → Type 0
-Lists o None l = o ≡ none
-Lists o (Some n) l = (n ≤ length l) × (o ≡ some (take n l))
+abbrev pub ListsBy : {A : Type 0} → Math.Option (List A) → Option ℕ → List A → Type 0
+ListsBy o None l = o ≡ none
+ListsBy o (Some n) l = (n ≤ length l) × (o ≡ some (take n l))
+
+pub record Lists {A : Type 0} (o : Math.Option (List A)) (r : Option ℕ) (l : List A) : Type 0 where
+  pub told : ListsBy o r l
 
 -- The list stands behind the first n elements of a slice, where they are 256 at most; else nothing is answered.
-abbrev pub Adds : {A : Type 0} → List A → ℕ → List A → Option ℕ → List A → Type 0
-Adds xs n l None l' = 256 < n + length xs
-Adds xs n l (Some k) l' = (k ≤ 256) × (take k l' ≡ take n l ++ xs)
+abbrev pub AddsBy : {A : Type 0} → List A → ℕ → List A → Option ℕ → List A → Type 0
+AddsBy xs n l None l' = 256 < n + length xs
+AddsBy xs n l (Some k) l' = (k ≤ 256) × (take k l' ≡ take n l ++ xs)
+
+pub record Adds {A : Type 0} (xs : List A) (n : ℕ) (l : List A) (r : Option ℕ) (l' : List A) : Type 0 where
+  pub told : AddsBy xs n l r l'
 
 -- The clauses of a node from those of its parts, by its kind byte: 4 for fand, 5 for for.
 abbrev pub node_list : {A : Type 0} → Handling A → ℕ → List A → List A → Math.Option (List A)
