@@ -7,7 +7,7 @@ mod weighing;
 
 pub use rewriting::rewrite;
 pub use sides::side;
-pub use weighing::{place_by, weigh};
+pub use weighing::{NOTHING, ONE_BYTE, place_by, weigh};
 
 // What a pass does to the dimensions: raises those from k on; lowers those above k and replaces k itself; or makes the
 // faces of a boundary.
@@ -16,11 +16,4 @@ pub enum Rule {
     Up(usize),
     Down(usize),
     Ends,
-}
-
-// Where a dimension goes: to another, or it is the one that is replaced.
-#[derive(Clone, Copy)]
-pub enum Moved {
-    To(usize),
-    Hit,
 }
