@@ -13,14 +13,7 @@ pub use weights::weigh;
 pub struct Weight {
     pub weight: usize,
     pub dim: usize,
-    pub side: usize,
+    pub side: u8,
     pub forced: bool,
     pub at: usize,
-}
-
-// Whether something was found in a face, and the place behind the face.
-#[derive(Clone, Copy)]
-struct Seen {
-    at: usize,
-    found: bool,
 }

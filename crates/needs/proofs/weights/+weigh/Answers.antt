@@ -1,6 +1,8 @@
 use native.Mathlib.Omega.{arith}
-use mathlib.Core.Path.{sym, subst}
-use Rattle.needs.specs.Weighing.{Weighed}
+use mathlib.Core.Path.{◌≡◌, sym, subst, ap, ◌∙◌}
+use Rattle.std.specs.Option.{unwrap_or}
+use Rattle.needs.specs.Weighing.{Weighed, conjoined}
+use lib.ListN.{get_or}
 use Rattle.needs.proofs.PlaceLaws.{stands-inside, second-behind}
 use Rattle.needs.proofs.WeighLaws.{leaf-weighed, first-asks, second-asks, parts-small, conjoined-weighed, lighter-weighed}
 use Rattle.needs.proofs.weights.+weigh.Goals as goal
@@ -26,14 +28,14 @@ weigh-x-requires t c = (omega (arith, c.decreases, stands-inside c.requires.asks
 pub weigh-y-requires : goal.weigh-y-requires
 weigh-y-requires t c = (omega (arith, c.decreases, stands-inside c.requires.asks.stands, second-behind c.requires.asks.stands c.if-kind-lt4.false c.weigh-x.ensures.ends), (second-asks c.requires.asks c.if-kind-lt4.false c.weigh-x.ensures.ends, c.requires.marks))
 
-pub bounds-marks-at : goal.bounds-marks-at
-bounds-marks-at t c = omega (arith, stands-inside c.requires.asks.stands, c.requires.marks.1)
-
 pub conjoined-requires : goal.conjoined-requires
 conjoined-requires t c = parts-small c.args.f.now c.args.at c.args.state.now c.if-kind-lt4.false c.weigh-x.ensures c.weigh-y.ensures c.requires.asks
 
 pub returns-then-kind-eq4 : goal.returns-then-kind-eq4
-returns-then-kind-eq4 t c = subst (Weighed c.args.f.now c.args.at c.args.state.now) (sym c.conjoined.ensures) (conjoined-weighed c.args.f.now c.args.at c.args.state.now c.if-kind-lt4.false c.weigh-x.ensures c.weigh-y.ensures c.if-kind-eq4.true c.requires.marks.0)
+returns-then-kind-eq4 t c =
+    let read : c.unwrap_or.result ≡ get_or c.args.marks.now c.args.at 0 = c.unwrap_or.ensures ∙ ap (λ o. unwrap_or o 0) c.copied.ensures ∙ c.get.ensures.lookup.4 (omega arith) 0 in
+    subst (Weighed c.args.f.now c.args.at c.args.state.now) (ap (λ m. conjoined m c.weigh-x.result c.weigh-y.result) (sym read) ∙ sym c.conjoined.ensures)
+    (conjoined-weighed c.args.f.now c.args.at c.args.state.now c.if-kind-lt4.false c.weigh-x.ensures c.weigh-y.ensures c.if-kind-eq4.true c.requires.marks)
 
 pub returns : goal.returns
 returns t c = subst (Weighed c.args.f.now c.args.at c.args.state.now) (sym c.lighter.ensures) (lighter-weighed c.args.f.now c.args.at c.args.state.now c.if-kind-lt4.false c.weigh-x.ensures c.weigh-y.ensures c.if-kind-eq4.false)
