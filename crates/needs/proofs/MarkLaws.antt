@@ -2,7 +2,7 @@
 use Prim.Native.Nat.{ℕ, ◌+◌, ◌-◌, ◌≤◌, ◌<◌}
 use native.Mathlib.Omega.{arith}
 use native.Mathlib.Decide.{ℕ_discrete}
-use mathlib.Core.Path.{◌≡◌, refl, sym, ap, ap₂, ◌∙◌, subst}
+use mathlib.Core.Path.{◌≡◌, refl, sym, ap, ◌∙◌, subst}
 use mathlib.Core.Logic.{◌⊎◌, inl, inr, ⊎_elim}
 use mathlib.Core.Bool.{Bool, true, false, false≢true, ◌&&◌, ◌||◌, and-eq-true_iff}
 use mathlib.Core.List.{List, ◌++◌}
@@ -16,7 +16,7 @@ use Rattle.calculus.proofs.Sound.{or-iff}
 use Rattle.literals.proofs.FaceLaws.{PartsAt, leaf-at, parts_at, leaf-same, parts_same}
 use Rattle.needs.specs.States.{occurs, Apart}
 use Rattle.needs.specs.Places.{Ends}
-use Rattle.needs.specs.Marking.{Marks, Finds, Has, Shares, Marked}
+use Rattle.needs.specs.Marking.{Marks, Finds, Shares, Marked}
 use Rattle.needs.proofs.PlaceLaws.{leaf-ends, literal-ends, parts-end, second, side_of, literal-is}
 
 -- ---- literals
@@ -85,25 +85,6 @@ parts-find P f i {j} {k} {r} {s} h A B = record {
         go : (r ≡ true) ⊎ (s ≡ true) → (n : ℕ) × (v : ℕ) × (occurs t n v ≡ true) × P n v true
         go (inl y) = let x = A.some p.left (encode_face p.right ++ rest) p.first y in (x.0, x.1, occurs-parts p x.0 x.1 ∙ (or-iff (occurs p.left x.0 x.1) (occurs p.right x.0 x.1)).1 (inl x.2), x.3)
         go (inr y) = let x = B.some p.right rest (second f i h A.ends t rest e) y in (x.0, x.1, occurs-parts p x.0 x.1 ∙ (or-iff (occurs p.left x.0 x.1) (occurs p.right x.0 x.1)).1 (inr x.2), x.3)
-
--- By a test of the dimension and the side it is found whether the literal is there.
-pub found-has : (P : ℕ → ℕ → Bool → Type 0) (f : List ℕ) (i n v : ℕ) {j : ℕ} {r : Bool} → ((m e : ℕ) (b : Bool) → P m e b → b ≡ (eqb m n && eqb e v)) → Finds P f i j r → Has f i n v r
-found-has P f i n v {r = r} test F t rest e = go r refl
-  where
-    go : (b : Bool) → r ≡ b → r ≡ occurs t n v
-    go true y =
-        let x = F.some t rest e y in
-        let q = (and-eq-true_iff (eqb x.0 n) (eqb x.1 v)).0 (sym (test x.0 x.1 true x.3)) in
-        y ∙ sym (ap₂ (occurs t) (sym (eqb-true x.0 n q.0)) (sym (eqb-true x.1 v q.1)) ∙ x.2)
-    go false y = y ∙ sym (missing (occurs t n v) refl)
-      where
-        missing : (b : Bool) → occurs t n v ≡ b → b ≡ false
-        missing false o = refl
-        missing true o = absurd (false≢true (test n v false (F.none t rest e y n v o) ∙ rw (eq-eqb n n refl, eq-eqb v v refl)))
-
--- Where each literal is missing in the other face they share none.
-pub found-share : (P : ℕ → ℕ → Bool → Type 0) (f : List ℕ) (i k : ℕ) {j : ℕ} {r : Bool} → ((n v : ℕ) → P n v false → Has f k n v false) → Finds P f i j r → Shares f i k r
-found-share P f i k test F t rest e u more g y n v a b = false≢true (test n v (F.none t rest e y n v a) u more g ∙ b)
 
 -- ---- marks
 

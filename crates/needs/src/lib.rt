@@ -4,7 +4,7 @@
 mod marks;
 mod weights;
 
-pub use marks::mark;
+pub use marks::{MarkedFace, mark};
 pub use weights::weigh;
 
 // What a face needs at least, one dimension and side that may be chosen for it, whether the face holds nowhere without,

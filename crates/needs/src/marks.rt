@@ -3,6 +3,13 @@ ghost use Rattle.std.specs.Prelude.{◌≡◌, ◌||◌, ◌≤◌, ◌<◌, ◌
 ghost use Rattle.needs.specs.Places.{Stands};
 ghost use Rattle.needs.specs.Marking.{Marks, Finds, Has, Shares, Marked};
 
+// A face with its marks: 1 only at fands whose parts share no literal. A mark that isn't there is none.
+pub struct MarkedFace<'a> {
+    pub face: &'a [u8],
+    pub marks: &'a [u8],
+    ghost right: { Marks face.now marks.now },
+}
+
 // Whether something was found in a face, and the place behind the face.
 #[derive(Clone, Copy)]
 struct Seen {

@@ -1,9 +1,8 @@
 // What a face still needs.
 ghost use Rattle.std.specs.Prelude.{◌≡◌, ◌≤◌, ◌<◌, length, get_or};
 ghost use Rattle.needs.specs.Weighing.{Asks, never, Weighed, cost as cost_of, leads as leads_of, needed as needed_of, conjoined as conjoined_of, left_over, lighter as lighter_of, constant as constant_of};
-ghost use Rattle.needs.specs.Marking.{Marks};
 
-use crate::Weight;
+use crate::{MarkedFace, Weight};
 
 // More than any face needs: where it can't hold.
 const NEVER: usize = 1000;
@@ -108,24 +107,23 @@ fn constant(kind: u8, next: usize) -> Weight
     }
 }
 
-// What the face at a place needs at least in a state. A mark that isn't there is none.
-pub fn weigh(f: &[u8], at: usize, marks: &[u8], state: &[u8]) -> Weight
-    requires asks { Asks f.now at (length state.now) }
-    requires marks { Marks f.now marks.now }
-    ensures { Weighed f.now at state.now result }
+// What the face at a place needs at least in a state.
+pub fn weigh(f: &MarkedFace, at: usize, state: &[u8]) -> Weight
+    requires { Asks f.now.face.now at (length state.now) }
+    ensures { Weighed f.now.face.now at state.now result }
 {
-    let kind = f[at];
+    let kind = f.face[at];
     let next = at + 1;
     if kind < 2 {
         return constant(kind, next);
     }
     if kind < 4 {
-        return literal(f, at, state);
+        return literal(f.face, at, state);
     }
-    let x = weigh(f, next, marks, state);
-    let y = weigh(f, x.at, marks, state);
+    let x = weigh(f, next, state);
+    let y = weigh(f, x.at, state);
     if kind == 4 {
-        return conjoined(marks.get(at).copied().unwrap_or(0), x, y);
+        return conjoined(f.marks.get(at).copied().unwrap_or(0), x, y);
     }
     lighter(x, y)
 }

@@ -1,5 +1,5 @@
 use native.Mathlib.Omega.{arith}
-use Rattle.needs.proofs.PlaceLaws.{stands-inside, literal-inside, leaf-ends, literal-ends, first-stands, second-behind, second-stands}
+use Rattle.needs.proofs.PlaceLaws.{stands-inside, leaf-ends, literal-ends, first-stands, second-behind, second-stands}
 use Rattle.needs.proofs.MarkLaws.{parts-marked, node-marked}
 use mathlib.Core.Path.{refl}
 use Rattle.needs.proofs.marks.+mark.Goals as goal
@@ -13,9 +13,6 @@ overflow_add-next t c = omega (arith, stands-inside c.requires.stands.0)
 pub returns-then-kind-lt2 : goal.returns-then-kind-lt2
 returns-then-kind-lt2 t c = record { ends = leaf-ends c.args.f.now c.args.at c.if-kind-lt2.true; right = c.requires.stands.1; long = refl }
 
-pub overflow_add-result : goal.overflow_add-result
-overflow_add-result t c = omega (arith, literal-inside c.requires.stands.0 c.if-kind-lt2.false c.if-kind-lt4.true)
-
 pub returns-then-kind-lt4 : goal.returns-then-kind-lt4
 returns-then-kind-lt4 t c = record { ends = literal-ends c.args.f.now c.args.at c.if-kind-lt2.false c.if-kind-lt4.true; right = c.requires.stands.1; long = refl }
 
@@ -27,9 +24,6 @@ mark-end-requires t c = (omega (arith, c.decreases, stands-inside c.requires.sta
 
 pub share-requires : goal.share-requires
 share-requires t c = (first-stands c.requires.stands.0 c.if-kind-lt4.false, second-stands c.requires.stands.0 c.if-kind-lt4.false c.mark-middle.ensures.ends)
-
-pub bounds-marks-at : goal.bounds-marks-at
-bounds-marks-at t c = omega (arith, stands-inside c.requires.stands.0, c.requires.f_in_bounds, c.mark-middle.ensures.long, c.mark-end.ensures.long)
 
 pub returns-then-not-share : goal.returns-then-not-share
 returns-then-not-share t c = node-marked c.args.f.now c.args.at c.if-kind-lt4.false c.mark-middle.ensures c.mark-end.ensures c.share.ensures c.if-not-share.true
