@@ -4,6 +4,7 @@ ghost use Rattle.needs.specs.Places.{Stands};
 ghost use Rattle.needs.specs.Marking.{Marks, Finds, Has, Shares, Marked};
 
 // A face with its marks: 1 only at fands whose parts share no literal. A mark that isn't there is none.
+#[derive(Clone, Copy)]
 pub struct MarkedFace<'a> {
     pub face: &'a [u8],
     pub marks: &'a [u8],
