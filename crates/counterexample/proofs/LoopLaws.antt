@@ -1,15 +1,14 @@
 -- Loops over the bytes of a state.
-use Prim.Native.Nat.{ℕ, zero, suc, ◌+◌, ◌-◌, ◌≤◌, ◌<◌, min}
+use Prim.Native.Nat.{ℕ, ◌+◌, ◌≤◌, ◌<◌, min}
 use native.Mathlib.Omega.{arith}
 use native.Mathlib.Nat.{zero-add}
 use mathlib.Core.Path.{◌≡◌, refl, sym, ap, ap₂, ◌∙◌}
-use mathlib.Core.Bool.{Bool, true, false, ◌&&◌}
+use mathlib.Core.Bool.{Bool, true, false}
 use mathlib.Core.Logic.{◌⊎◌, inl, inr}
 use mathlib.Core.List.{List, [], ◌∷◌, ◌++◌, append-nil}
-use lib.Dec.{leb, ltb}
+use lib.Dec.{ltb}
 use lib.ListN.{length, get_or, set, take, drop}
-use lib.Seq.{sets, sets-eq, take_all, drop-cons, drop-length}
-use native.Mathlib.Numerals.{add-one}
+use lib.Seq.{sets, sets-eq, take_all, drop-length}
 use borrow.Author.Tests.{lt-ltb, le-ltb, ltb-true, ltb-false}
 use Rattle.formula.specs.Answers.{pick}
 use Rattle.formula.proofs.ByteLaws.{copied_more}
@@ -60,12 +59,3 @@ precedes-ends k [] B h = refl
 precedes-ends k (s ∷ S) [] h = refl
 precedes-ends k (s ∷ S) (b ∷ B) (inl h) = absurd (omega (arith, h))
 precedes-ends k (s ∷ S) (b ∷ B) (inr h) = absurd (omega (arith, h))
-
--- ---- single bytes
-
-pub lowest-room : (k s : ℕ) → 2 ≤ s → lowest k s < 2 → 0 < k
-lowest-room zero s h l = absurd (omega (arith, l, ap (λ b. pick b s 2) (le-ltb s 2 h)))
-lowest-room (suc k) s h l = omega arith
-
-pub spent-by : (k s : ℕ) {b : Bool} → (leb 2 s && ltb (lowest k s) 2) ≡ b → pick b (k - 1) k ≡ spent k s
-spent-by k s e = ap (λ b. pick b (k - 1) k) (sym e)

@@ -1,4 +1,4 @@
-use Rattle.counterexample.proofs.AskLaws.{large-faced, short-faced, beyond-faced, admits, admitted-faced}
+use Rattle.counterexample.proofs.AskLaws.{large-faced, short-faced, beyond-faced, admitted-faced}
 use Rattle.counterexample.proofs.answers.admit.Goals as goal
 
 pub returns-then-d-gt255 : goal.returns-then-d-gt255

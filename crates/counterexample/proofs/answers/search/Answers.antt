@@ -1,7 +1,8 @@
-use mathlib.Core.Path.{sym}
-use lib.Seq.{length-take-le}
-use Rattle.counterexample.proofs.AskLaws.{stands-front, blank, start-long, start-ready, none_found, least-found}
+use Rattle.counterexample.proofs.AskLaws.{stands-front, blank, start-ready, none_found, least-found}
 use Rattle.counterexample.proofs.answers.search.Goals as goal
+
+pub mark-requires-clause-stands : goal.mark-requires-clause-stands
+mark-requires-clause-stands c = (stands-front c.args.a.now c.requires.claim.left c.requires.left, blank c.args.a.now 1024)
 
 pub explore-requires : goal.explore-requires
 explore-requires c = start-ready c.args.d c.requires.few c.requires
