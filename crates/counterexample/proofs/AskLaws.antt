@@ -211,18 +211,6 @@ module _ {a b out : List ℕ} {d n : ℕ} (s : Sides a b n) where
       pub beyond-faced : d < n → Faced d a b out (questioned d out) (Err NotBelow) out
       beyond-faced h = record { it = λ c p q. refused-shows NotBelow (by_tests d out c (le-leb d max_bound f) (le-leb d (length out) r) (not_low (bound_face c.left) (bound_face c.goal) d (omega (arith, h, bound-is s c p q)))) }
 
-      pub admits : n ≤ d → Sought d a b out
-      admits h = record {
-        claim = s.claim;
-        left = s.left;
-        goal = s.goal;
-        low = omega (arith, h, s.bound);
-        high = omega (arith, h, s.bound);
-        few = f;
-        fits = r;
-        short = s.short;
-      }
-
       pub admitted-faced : n ≤ d → {x : Result ℕ Refusal} {out' : List ℕ} → Faced d a b out Ok x out' → Faced d a b out (questioned d out) x out'
       admitted-faced h {x} {out'} g = record {
         it = λ c p q.

@@ -210,9 +210,6 @@ module _ {a b S : List ℕ} {chosen : ℕ} {B : List ℕ} {count : Option ℕ} (
           pub without-falls : left (set S₁ i v) < left S
           without-falls = subst (λ l. left l < left S) (sym given-up-state) (left-without S i e picks.0 picks.1)
 
-          pub inside-first : i < length S₁
-          inside-first = omega (arith, picks.0, ap length X.restored, length-set S i e)
-
           fewer-first : limit (length S) c₁ ≤ limit (length S) count
           fewer-first = let l = P.left.stands in let g = P.goal.stands in subst (λ d. limit d c₁ ≤ limit d count) (length-set S i e) (X.it l.face g.face l.rest g.rest l.bytes g.bytes).fewer
 
@@ -228,9 +225,6 @@ module _ {a b S : List ℕ} {chosen : ℕ} {B : List ℕ} {count : Option ℕ} (
             narrow = omega (arith, P.narrow, long-two);
             few = subst (λ d. limit d c₁ ≤ 256) (sym long-two) (omega (arith, fewer-first, P.few));
           })
-
-          pub inside-second : {c₂ : Option ℕ} {S' B₂ : List ℕ} → Explores a b (set S₁ i v) c₁ B₁ c₂ S' B₂ → i < length S'
-          inside-second Y = omega (arith, picks.0, ap length (Y.restored ∙ given-up-state), long-two)
 
           pub branches : {c₂ : Option ℕ} {old : ℕ} {S' B₂ : List ℕ} → Explores a b (set S₁ i v) c₁ B₁ c₂ S' B₂ → old ≡ get_or S i 0 → Explores a b S count B c₂ (set S' i old) B₂
           branches {c₂} {old} {S'} {B₂} Y o = record {
