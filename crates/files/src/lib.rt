@@ -40,7 +40,5 @@ pub fn read<'a, R: Env + Files>(rt: &R, i: usize, space: &'a mut [u8]) -> io::Re
     let Ok(path) = str::from_utf8(arg(rt, i, &mut name)) else {
         return Err(io::Error::from(ErrorKind::InvalidFilename));
     };
-    let mut file = fs::open(rt, path)?;
-    let n = stdio::fill(&mut file, space)?;
-    Ok(&space[..n])
+    stdio::read_all(&mut fs::open(rt, path)?, space)
 }

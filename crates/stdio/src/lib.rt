@@ -63,6 +63,29 @@ pub fn fill<R: Read>(input: &mut R, space: &mut [u8]) -> io::Result<usize>
     Ok(n)
 }
 
+// All of the input, as far as the space reaches.
+pub fn read_all<'a, R: Read>(input: &mut R, space: &'a mut [u8]) -> io::Result<&'a [u8]>
+    ensures within { IfOk result (λ r. length r.now ≤ length space.old) }
+    ensures took { IfOk result (λ r. Consumes (R.remaining input.old) (R.remaining input.new) r.now) }
+    ensures ended { IfOk result (λ r. length r.now < length space.old → IsAtEnd (R.remaining input.new)) }
+{
+    let n = fill(input, space)?;
+    Ok(&space[..n])
+}
+
+// Two sums of the bytes, as Adler's checksum has them.
+pub fn adler(s: &[u8]) -> (usize, usize)
+    ensures { (result.0 < 65521) × (result.1 < 65521) }
+{
+    let mut a: usize = 1;
+    let mut b: usize = 0;
+    for x in s {
+        a = (a + usize::from(*x)) % 65521;
+        b = (b + a) % 65521;
+    }
+    (a, b)
+}
+
 // The next four bytes of the input; zeros where it ends.
 pub fn word<R: Read>(input: &mut R) -> io::Result<[u8; 4]>
     ensures { IfOk result (Padded (R.remaining input.old) (R.remaining input.new)) }
