@@ -21,9 +21,7 @@ use Rattle.calculus.proofs.Records.{read-ledger}
 use Rattle.calculus.proofs.Rooms.{size-extends}
 use Rattle.calculus.proofs.Growing.{Extends}
 use Rattle.ledger.specs.Ledger.{steps_of, Led}
-use Rattle.emission.specs.Emitting.{Undone}
 use Rattle.ledger.proofs.LedgerLaws.{holds-steps}
-use Rattle.steps.specs.declared.Stop.TheVariants.{NotBelow, NotImplied, Full}
 use Rattle.steps.specs.Running.{Ran, book, Leaves, Ends, RunsOn}
 use Rattle.steps.proofs.RunLaws.{runs-grew, runs-led}
 use Rattle.replies.specs.Replying.{said, Replies}
@@ -63,20 +61,6 @@ module _ {l l₁ : List ℕ} {p : Program} {r : Ran} {end : ℕ} (d : Led l) (h 
           let u : l₂ ≡ ledger_bytes (length l₁) (steps_of l) = k'.1 (steps_of l) g.more (holds-steps g.leaves.holds) e in
           let v : l ≡ l₂ = d.bytes ∙ ap (λ (n : ℕ). ledger_bytes n (steps_of l)) (sym g.leaves.long) ∙ sym u in
           ap (finished outs rs (Err FullLedger)) v ∙ ap (λ (x : Result ℕ Refusal). finished outs rs x l₂) (sym k'.0)
-
--- The endings of the code.
-module _ {l : List ℕ} {end : ℕ} {r : Ran} where
-  pub ends-done : {n : ℕ} → r ≡ Ok n → Ending l end r (Ok n) l
-  ends-done {n} e = record { by = subst (λ (x : Ran). EndingBy l end x (Ok n) l) (sym e) (refl, refl) }
-
-  pub ends-below : r ≡ Err NotBelow → Ending l end r (Err below) l
-  ends-below e = record { by = subst (λ (x : Ran). EndingBy l end x (Err below) l) (sym e) (refl, refl) }
-
-  pub ends-implied : r ≡ Err NotImplied → Ending l end r (Err implied) l
-  ends-implied e = record { by = subst (λ (x : Ran). EndingBy l end x (Err implied) l) (sym e) (refl, refl) }
-
-  pub ends-full : {l' : List ℕ} → r ≡ Err Full → Undone l end l' → Ending l end r (Err FullLedger) l'
-  ends-full {l'} e u = record { by = subst (λ (x : Ran). EndingBy l end x (Err FullLedger) l') (sym e) (refl, u) }
 
 -- Questions 3 to 6 ----------------------------------------------------------------------------------
 
