@@ -1,13 +1,14 @@
 -- What the functions write: bytes of one kind, a literal, the literals of a clause by their ranks.
 use Prim.Native.Nat.{ℕ, zero, suc, ◌+◌, ◌-◌, ◌*◌, ◌/◌, ◌%◌, ◌≤◌, ◌<◌}
-use native.Mathlib.Decide.{dec_le}
 use native.Mathlib.Numerals.{add-one}
 use native.Mathlib.Omega.{arith}
 use mathlib.Core.Path.{◌≡◌, refl, sym, ap, ap₂, ◌∙◌, subst}
 use mathlib.Core.Bool.{Bool, true, false}
 use mathlib.Core.List.{List, [], ◌∷◌, ◌++◌}
-use lib.ListN.{length, get_or, set, drop, replicate, replicate-append-replicate, length-append, drop_of_length-le}
-use lib.Seq.{sets, drop-cons}
+use lib.ListN.{length, get_or, set, take, drop, length-drop, replicate, length-replicate, length-append, drop_of_length-le}
+use lib.Seq.{sets, sets-eq, take_all, length-take-le, drop-cons}
+use borrow.Rule.Slice.PartMut.{put_mid}
+use Rattle.std.proofs.lemmas.Slice.{put_mid-paste}
 use Rattle.formula.specs.Bytes.{dim_width, dim_bytes, encode_face}
 use Rattle.formula.specs.Answers.{pick, dim_space}
 use Rattle.formula.proofs.Nodes.{literal-kind}
@@ -15,7 +16,6 @@ use Rattle.clauses.specs.Normal.{literal, conjunction}
 use Rattle.clauses.specs.Shape.{All, each}
 use Rattle.clauses.specs.Words.{bits, select, count}
 use Rattle.clauses.specs.declared.Clause.{Clause as Bits}
-use Rattle.clauses.proofs.Selecting.{bits-length}
 use Rattle.forms.specs.Forms.{literal_nodes, weight_of, literals_bytes, clause_form, Wrote}
 use Rattle.forms.proofs.FormLaws.{conjunction-bytes, clause-count, wrote_none, wrote-next, wrote_as, wrote-length, times-room, Printing, printing-start, printing-room, printing-next, printing-end, printing-length}
 
@@ -35,11 +35,18 @@ weight-some c {m} e h = nodes-some m h ∙ ap literal_nodes e
 
 -- ---- a byte so many times
 
-pub times-next : (b i : ℕ) {out out' : List ℕ} {to : ℕ} → Wrote out to (replicate i b) (to + i) out' → Wrote out to (replicate (i + 1) b) (to + (i + 1)) (set out' (to + i) b)
-times-next b i h = wrote_as (replicate-append-replicate i 1 b) (wrote-next h (record { next = omega arith; stored = refl }))
-
-pub times-end : (b : ℕ) {out out' : List ℕ} {to i n : ℕ} → i ≤ n → n ≤ i → Wrote out to (replicate i b) (to + i) out' → Wrote out to (replicate n b) (to + n) out'
-times-end b {out} {out'} {to} h k w = subst (λ (n : ℕ). Wrote out to (replicate n b) (to + n) out') (omega arith) w
+pub filled : (b n : ℕ) {out ys : List ℕ} {to : ℕ} → to + n ≤ length out → ys ≡ replicate (length (take (to + n - to) (drop to out))) b → Wrote out to (replicate n b) (to + n) (put_mid to (to + n - to) out ys)
+filled b n {out} {ys} {to} h e =
+    let many : to + n - to ≡ n = omega arith in
+    let part : length (take (to + n - to) (drop to out)) ≡ n = length-take-le (to + n - to) (drop to out) (omega (arith, h, length-drop to out)) ∙ many in
+    let long : to + length (replicate n b) ≤ length out = omega (arith, h, length-replicate n b) in
+    record {
+      next = omega (arith, length-replicate n b);
+      stored =
+          put_mid-paste to (to + n - to) out ys (replicate n b) n (e ∙ ap (λ k. replicate k b) part) (sym many) (sym (length-replicate n b))
+          ∙ ap₂ (λ (l : List ℕ) (k : ℕ). take to out ++ l ++ drop (to + k) out) (take_all n (replicate n b) (omega (arith, length-replicate n b))) (sym (length-replicate n b))
+          ∙ sym (sets-eq (replicate n b) out to long);
+    }
 
 -- ---- a literal
 
@@ -79,35 +86,25 @@ all_head (each p a) = p
 all_tail : {P : ℕ → Type 0} {k : ℕ} {l : List ℕ} → All P (k ∷ l) → All P l
 all_tail (each p a) = a
 
--- Some literals are written, and as many are left as are to come from a rank on.
-pub record Spelling (ks : List ℕ) (b : List Bool) (out₀ : List ℕ) (to : ℕ) (out : List ℕ) (at left k : ℕ) : Type 0 where
-  pub same : length ks ≡ length b
+-- The literals before a rank are written, and those from it on are to come.
+pub record Spelling (ks : List ℕ) (b : List Bool) (out₀ : List ℕ) (to : ℕ) (out : List ℕ) (at k : ℕ) : Type 0 where
   pub printing : Printing (λ j. encode_face (literal j)) (literals_bytes (select ks b)) out₀ to (chosen_from ks b k) at out
-  pub many : left ≡ length (chosen_from ks b k)
   pub narrow : Narrow (chosen_from ks b k)
 
-pub spelling-start : (ks : List ℕ) (c : Bits) {out : List ℕ} {to many : ℕ} → length ks ≡ 256 → many ≡ count (bits c) → Narrow (select ks (bits c)) → Spelling ks (bits c) out to out to many 0
+pub spelling-start : (ks : List ℕ) (b : List Bool) {out : List ℕ} {to : ℕ} → Narrow (select ks b) → Spelling ks b out to out to 0
 unfolding literals_bytes
-spelling-start ks c e m a = record { same = e ∙ sym (bits-length c); printing = printing-start wrote_none refl; many = m ∙ sym (clause-count ks c e); narrow = a }
+spelling-start ks b a = record { printing = printing-start wrote_none refl; narrow = a }
 
-pub spelling-length : {ks : List ℕ} {b : List Bool} {out₀ : List ℕ} {to : ℕ} {out : List ℕ} {at left k : ℕ} → Spelling ks b out₀ to out at left k → length out ≡ length out₀
+pub spelling-length : {ks : List ℕ} {b : List Bool} {out₀ : List ℕ} {to : ℕ} {out : List ℕ} {at k : ℕ} → Spelling ks b out₀ to out at k → length out ≡ length out₀
 spelling-length s = printing-length s.printing
 
 -- The same, told in other numbers.
-pub spelling-as : {ks : List ℕ} {b : List Bool} {out₀ : List ℕ} {to : ℕ} {out out' : List ℕ} {at at' left left' k : ℕ} → out' ≡ out → at' ≡ at → left' ≡ left → Spelling ks b out₀ to out at left k → Spelling ks b out₀ to out' at' left' k
-spelling-as e f g s = rw (e, f, g) s
+pub spelling-as : {ks : List ℕ} {b : List Bool} {out₀ : List ℕ} {to : ℕ} {out out' : List ℕ} {at at' k : ℕ} → out' ≡ out → at' ≡ at → Spelling ks b out₀ to out at k → Spelling ks b out₀ to out' at' k
+spelling-as e f s = rw (e, f) s
 
-module _ {ks : List ℕ} {b : List Bool} {out₀ : List ℕ} {to : ℕ} {out : List ℕ} {at left k : ℕ} (s : Spelling ks b out₀ to out at left k) (h : 0 < left) where
-  -- The rank is one of a literal.
-  pub spelling-rank : k < length ks
-  spelling-rank = go (dec_le (length ks) k)
-    where
-      go : Dec (length ks ≤ k) → k < length ks
-      go (yes g) = absurd (omega (arith, s.many, ap length (chosen_none ks b k g)))
-      go (no g) = omega arith
-
+module _ {ks : List ℕ} {b : List Bool} {out₀ : List ℕ} {to : ℕ} {out : List ℕ} {at k : ℕ} (s : Spelling ks b out₀ to out at k) (h : k < length ks) (g : k < length b) where
   here : (x : Bool) → get_or b k false ≡ x → chosen_from ks b k ≡ pick x (get_or ks k 0 ∷ chosen_from ks b (k + 1)) (chosen_from ks b (k + 1))
-  here x p = chosen_at ks b k spelling-rank (omega (arith, s.same, spelling-rank)) ∙ ap (λ (x : Bool). pick x (get_or ks k 0 ∷ chosen_from ks b (k + 1)) (chosen_from ks b (k + 1))) p
+  here x p = chosen_at ks b k h g ∙ ap (λ (x : Bool). pick x (get_or ks k 0 ∷ chosen_from ks b (k + 1)) (chosen_from ks b (k + 1))) p
 
   narrow-here : (x : Bool) → get_or b k false ≡ x → Narrow (pick x (get_or ks k 0 ∷ chosen_from ks b (k + 1)) (chosen_from ks b (k + 1)))
   narrow-here x p = subst Narrow (here x p) s.narrow
@@ -118,30 +115,18 @@ module _ {ks : List ℕ} {b : List Bool} {out₀ : List ℕ} {to : ℕ} {out : L
   pub spelling-room : get_or b k false ≡ true → to + length (literals_bytes (select ks b)) ≤ length out₀ → at + length (encode_face (literal (get_or ks k 0))) ≤ length out
   spelling-room p r = printing-room s.printing (here true p) r
 
-  pub spelling-next : {at' : ℕ} {out' : List ℕ} → get_or b k false ≡ true → Wrote out at (encode_face (literal (get_or ks k 0))) at' out' → Spelling ks b out₀ to out' at' (left - 1) (k + 1)
-  spelling-next p w =
-      record {
-        same = s.same;
-        printing = printing-next s.printing (here true p) w;
-        many = omega (arith, s.many, ap length (here true p));
-        narrow = all_tail (narrow-here true p);
-      }
+  pub spelling-next : {at' : ℕ} {out' : List ℕ} → get_or b k false ≡ true → Wrote out at (encode_face (literal (get_or ks k 0))) at' out' → Spelling ks b out₀ to out' at' (k + 1)
+  spelling-next p w = record { printing = printing-next s.printing (here true p) w; narrow = all_tail (narrow-here true p) }
 
-  pub spelling-skip : get_or b k false ≡ false → Spelling ks b out₀ to out at left (k + 1)
+  pub spelling-skip : get_or b k false ≡ false → Spelling ks b out₀ to out at (k + 1)
   spelling-skip p =
       record {
-        same = s.same;
         printing = subst (λ (l : List ℕ). Printing (λ j. encode_face (literal j)) (literals_bytes (select ks b)) out₀ to l at out) (here false p) s.printing;
-        many = s.many ∙ ap length (here false p);
         narrow = narrow-here false p;
       }
 
-empty : (l : List ℕ) → length l ≡ 0 → l ≡ []
-empty [] e = refl
-empty (k ∷ l) e = absurd (omega (arith, e))
-
-pub spelling-end : {ks : List ℕ} {b : List Bool} {out₀ : List ℕ} {to : ℕ} {out : List ℕ} {at left k : ℕ} → Spelling ks b out₀ to out at left k → left ≤ 0 → Wrote out₀ to (literals_bytes (select ks b)) at out
-spelling-end {ks} {b} {k = k} s h = printing-end s.printing (empty (chosen_from ks b k) (omega (arith, s.many, h)))
+pub spelling-end : {ks : List ℕ} {b : List Bool} {out₀ : List ℕ} {to : ℕ} {out : List ℕ} {at k : ℕ} → Spelling ks b out₀ to out at k → length ks ≤ k → Wrote out₀ to (literals_bytes (select ks b)) at out
+spelling-end {ks} {b} {k = k} s h = printing-end s.printing (chosen_none ks b k h)
 
 -- ---- a clause
 
