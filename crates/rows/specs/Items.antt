@@ -1,24 +1,13 @@
 -- A rule's row as tokens, for private contracts; no public contract rests on them.
-use Rattle.std.specs.Prelude.{ℕ, ◌-◌, ltb}
-use Rattle.formula.specs.Answers.{pick}
+use Rattle.std.specs.Prelude.{◌<◌}
+use Rattle.rows.specs.declared.Token.{Token}
+use Rattle.rows.specs.declared.Token.TheVariants.{Byte as byte, Number as number, Slot as slot, Front as front, Done as done, Pad as pad}
 
--- A token: a byte, a number so much above a variable, the bytes in a slot, a context's count with so many faces in front of a variable, no faces left, nothing.
-pub data Token : Type 0 where
-  byte : ℕ → Token
-  number : ℕ → ℕ → Token
-  slot front : ℕ → Token
-  done pad : Token
-
--- What a row is made of: the predicate of the next judgement, and tokens inside one.
-pub data Item : Type 0 where
-  claim : ℕ → Item
-  inside : Token → Item
-
--- The token that a byte of a row below 96 stands for.
-abbrev pub token : ℕ → Token
-token b =
-    pick (ltb b 32) (byte b) (pick (ltb b 40) (number 0 (b - 32)) (pick (ltb b 48) (number 1 (b - 40)) (pick (ltb b 72) (slot (b - 48)) (pick (ltb b 80) (front (b - 72)) (pick (ltb b 81) done pad)))))
-
--- What a byte of a row stands for.
-unfoldable pub item : ℕ → Item
-item b = pick (ltb b 96) (inside (token b)) (claim (b - 96))
+-- The token's variable is one of the 24 slots of bytes, or of the 8 numbers.
+abbrev pub Fit : Token → Type 0
+Fit (byte b) = Unit {0}
+Fit (number k v) = v < 8
+Fit (slot u) = u < 24
+Fit (front k) = Unit {0}
+Fit done = Unit {0}
+Fit pad = Unit {0}
