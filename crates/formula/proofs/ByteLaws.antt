@@ -1,5 +1,5 @@
 -- Comparing and copying lists byte by byte.
-use Prim.Native.Nat.{ℕ, suc, ◌+◌, ◌≤◌, ◌<◌}
+use Prim.Native.Nat.{ℕ, suc, ◌+◌, ◌-◌, ◌≤◌, ◌<◌}
 use native.Mathlib.Omega.{arith}
 use native.Mathlib.Numerals.{add-one}
 use native.Mathlib.Nat.{add-zero}
@@ -8,7 +8,11 @@ use mathlib.Core.Bool.{Bool, true, false, ◌&&◌}
 use mathlib.Core.List.{List, [], ◌∷◌, ◌++◌}
 use lib.Dec.{eqb}
 use lib.ListN.{length, get_or, take, drop, set}
-use lib.Seq.{drop-cons, drop-length, sets, length-take-le, take-suc}
+use lib.Seq.{drop-cons, drop-length, sets, length-take-le, take-suc, take_all}
+use borrow.Rule.Slice.PartMut.{put_mid}
+use Rattle.std.specs.Cmp.Lexicographic.{pointwise}
+use Rattle.std.proofs.lemmas.Slice.{put_mid-paste}
+use Rattle.std.proofs.lemmas.List.Edits.{sets-eq}
 use borrow.Author.Tests.{eqb-true, eq-eqb, le-leb, lt-leb}
 use Rattle.formula.specs.Answers.{same_bytes, Put}
 
@@ -50,6 +54,22 @@ unfolding same_bytes
 same_ends l m i p e q =
     let a : i ≡ length l = omega arith in
     ap₂ same_bytes (ap (λ (n : ℕ). drop n l) a ∙ drop-length l) (ap (λ (n : ℕ). drop n m) (a ∙ e) ∙ drop-length m)
+
+-- the comparison of the library
+pub same-pointwise : (l m : List ℕ) → pointwise eqb l m ≡ same_bytes l m
+unfolding same_bytes
+same-pointwise [] [] = refl
+same-pointwise [] (b ∷ m) = refl
+same-pointwise (a ∷ l) [] = refl
+same-pointwise (a ∷ l) (b ∷ m) = ap (λ (t : Bool). eqb a b && t) (same-pointwise l m)
+
+-- a part of a list that was pasted over
+pub pasted : (src d ys : List ℕ) (at : ℕ) → at + length src ≤ length d → ys ≡ src → put_mid at (at + length src - at) d ys ≡ sets d at src
+pasted src d ys at h e =
+    let k : at + length src - at ≡ length src = omega arith in
+    put_mid-paste at (at + length src - at) d ys src (length src) e (sym k) refl
+    ∙ ap (λ (l : List ℕ). take at d ++ l ++ drop (at + length src) d) (take_all (length src) src (omega arith))
+    ∙ sym (sets-eq src d at h)
 
 -- a run of stores, one longer
 pub sets-snoc : (d : List ℕ) (i : ℕ) (l : List ℕ) (b : ℕ) → sets d i (l ++ b ∷ []) ≡ set (sets d i l) (i + length l) b

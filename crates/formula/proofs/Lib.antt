@@ -7,3 +7,4 @@ pub mod Operands
 pub mod Reading
 pub mod StepLaws
 pub mod WalkLaws
+pub mod Walks

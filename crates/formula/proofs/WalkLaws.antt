@@ -1,4 +1,6 @@
 -- One turn of the walk over a row of formulas: what is left to read ends where the whole does.
+use Rattle.std.specs.Prelude.{Result, Err, Ok, Option, Some, None}
+use Rattle.refusals.specs.declared.Refusal.{Refusal}
 use Prim.Native.Nat.{ℕ, zero, suc, ◌+◌, ◌-◌, ◌≤◌, ◌<◌, max}
 use native.Mathlib.Omega.{arith}
 use native.Mathlib.Numerals.{add-one}
@@ -12,17 +14,13 @@ use lib.Seq.{drop-cons, take_at}
 use borrow.Author.Tests.{le-leb, leb-true, leb-false, eq-eqb, ne_eqb}
 use Rattle.formula.specs.Bytes.{Tree, dim_width, dim_at, encode, Node, leaf, lit, one, two, bad, node_of, Got, nothing, got, then, take_dim, front, read, wholly, read_all}
 use Rattle.formula.specs.Answers.{pick, step_by, step_of, kind_of, size_read, measurement, size_front, measurement_at, bytes_of, part_at}
-use Rattle.formula.specs.Walks.{counted, turn_of, read_row, over_tree, passed, finish, walked_at}
+use Rattle.formula.proofs.Walks.{Walk, counted, turn_of, read_row, over_tree, passed, finish, walked_at}
 use Rattle.formula.specs.declared.Sort.{Sort}
 use Rattle.formula.specs.declared.Size.{Size}
 use Rattle.formula.specs.declared.Kind.{Kind}
 use Rattle.refusals.specs.declared.Refusal.TheVariants.{NotAFormula}
-use Rattle.refusals.specs.Refusals.{Result, refused, done}
 use Rattle.formula.specs.declared.Advance.{Advance}
 use Rattle.formula.specs.declared.Advance.TheVariants.{Leaf, Lit, One, Two, Stuck}
-use Rattle.formula.specs.declared.walk.Walk.{Walk}
-use Rattle.formula.specs.declared.walk.Turn.{Turn}
-use Rattle.formula.specs.declared.walk.Turn.TheVariants.{On, Broken}
 use Rattle.formula.proofs.Nodes.{Makes, made}
 use Rattle.formula.proofs.Reading.{nothing-got, encode-pos, read-cons, encode-read}
 use Rattle.formula.proofs.StepLaws.{step_kind, step_in, step-few}
@@ -31,8 +29,8 @@ walk-eq : {a b p q n m x y : ℕ} → a ≡ b → p ≡ q → n ≡ m → x ≡ 
 walk-eq e f g h i = record { at = e i; pending = f i; nodes = g i; bound = h i }
 
 -- a turn that is counted, with its numbers as the code has them
-pub on-eq : {a b p q n x y : ℕ} → b ≡ a → q ≡ p → y ≡ x → On (record { at = a + 1; pending = p; nodes = n; bound = x }) ≡ On (record { at = b + 1; pending = q; nodes = n; bound = y })
-on-eq e f h = ap On (walk-eq (ap (λ (z : ℕ). z + 1) (sym e)) (sym f) refl (sym h))
+pub on-eq : {a b p q n x y : ℕ} → b ≡ a → q ≡ p → y ≡ x → ◌≡◌ {A = Option Walk} (Some (record { at = a + 1; pending = p; nodes = n; bound = x })) (Some (record { at = b + 1; pending = q; nodes = n; bound = y }))
+on-eq e f h = ap Some (walk-eq (ap (λ (z : ℕ). z + 1) (sym e)) (sym f) refl (sym h))
 
 size-eq : {a b n m x y : ℕ} → a ≡ b → n ≡ m → x ≡ y → ◌≡◌ {A = Size} (record { len = a; nodes = n; bound = x }) (record { len = b; nodes = m; bound = y })
 size-eq e f g i = record { len = e i; nodes = f i; bound = g i }
@@ -74,7 +72,7 @@ module _ (s : Sort) where
     where
       go : (r : Got (List (Tree s))) → finish s w (then r (λ ts. got (t ∷ ts))) ≡ finish s w' r
       go nothing = refl
-      go (got ts k) = ap (λ (x : Walk). On (passed s x ts)) e
+      go (got ts k) = ap (λ (x : Walk). Some (passed s x ts)) e
 
   finish-one : (q : ℕ) (w w' : Walk) (u : Tree s → Tree s) → ((x : Tree s) → over_tree s w (u x) ≡ over_tree s w' x) → (r : Got (Tree s))
       → finish s w (then (then r (λ x. got (u x))) (behind q)) ≡ finish s w' (then r (behind q))
@@ -114,9 +112,9 @@ module _ (s : Sort) where
       walk-eq (omega (arith, ap length i.bytes, length-append (encode s x) (encode s y))) (omega arith) (omega (arith, i.count)) (omega (arith, i.top))
 
   -- where the walk goes on after a turn
-  abbrev pub after : List ℕ → Turn → Turn
-  after l Broken = Broken
-  after l (On w) = finish s w (read_row s w.pending (drop w.at l))
+  abbrev pub after : List ℕ → Option Walk → Option Walk
+  after l None = None
+  after l (Some w) = finish s w (read_row s w.pending (drop w.at l))
 
   module _ (l : List ℕ) (w : Walk) (q : ℕ) (e : w.pending ≡ suc q) (b : ℕ) where
     abbrev At : Node (Tree s) → Type 0
@@ -188,19 +186,20 @@ module _ (s : Sort) where
   pub record Walking (l : List ℕ) (start : ℕ) (w : Walk) : Type 0 where
     pub ends : finish s w (read_row s w.pending (drop w.at l)) ≡ walked_at s l start
     pub inside : w.at ≤ length l
+    pub behind_start : start ≤ w.at
     pub few : w.nodes ≤ w.at
 
-  pub walking-outside : (l : List ℕ) (start : ℕ) → length l ≤ start → Broken ≡ walked_at s l start
+  pub walking-outside : (l : List ℕ) (start : ℕ) → length l ≤ start → None ≡ walked_at s l start
   unfolding walked_at
   walking-outside l start h = sym (ap (finish s (record { at = start; pending = 1; nodes = 0; bound = 0 })) (row-few 1 (drop start l) (omega (arith, length-drop start l))))
 
   pub walking_start : (l : List ℕ) (start : ℕ) → start ≤ length l → Walking l start (record { at = start; pending = 1; nodes = 0; bound = 0 })
   unfolding walked_at
-  walking_start l start h = record { ends = refl; inside = h; few = omega arith }
+  walking_start l start h = record { ends = refl; inside = h; behind_start = omega arith; few = omega arith }
 
   module _ {l : List ℕ} {start : ℕ} {w : Walk} (g : Walking l start w) (h : 1 ≤ w.pending) where
     -- too few bytes lead nowhere
-    pub walking-few : length l - w.at < w.pending → Broken ≡ walked_at s l start
+    pub walking-few : length l - w.at < w.pending → None ≡ walked_at s l start
     walking-few f = sym (ap (finish s w) (row-few w.pending (drop w.at l) (omega (arith, length-drop w.at l)))) ∙ g.ends
 
     -- a turn by the kind of the node
@@ -208,38 +207,20 @@ module _ (s : Sort) where
       turned : after l (counted w (step_kind k l w.at w.pending)) ≡ walked_at s l start
       turned = sym (ap (λ (x : Advance). after l (counted w x)) (step_in s l w.at w.pending h i k e)) ∙ sym (turn-law l w h) ∙ g.ends
 
-      pub walking-broken : counted w (step_kind k l w.at w.pending) ≡ Broken → Broken ≡ walked_at s l start
+      pub walking-broken : counted w (step_kind k l w.at w.pending) ≡ None → None ≡ walked_at s l start
       walking-broken f = sym (ap (after l) f) ∙ turned
 
-      pub walking_on : (v : Walk) → counted w (step_kind k l w.at w.pending) ≡ On v → w.at < v.at → v.at ≤ length l → v.nodes ≡ w.nodes + 1 → Walking l start v
-      walking_on v f b c n = record { ends = sym (ap (after l) f) ∙ turned; inside = c; few = omega (arith, g.few) }
+      pub walking_on : (v : Walk) → counted w (step_kind k l w.at w.pending) ≡ Some v → w.at < v.at → v.at ≤ length l → v.nodes ≡ w.nodes + 1 → Walking l start v
+      walking_on v f b c n = record { ends = sym (ap (after l) f) ∙ turned; inside = c; behind_start = omega (arith, g.behind_start); few = omega (arith, g.few) }
 
-  pub finish-zero : (w : Walk) (l : List ℕ) → w.pending ≡ 0 → finish s w (read_row s w.pending l) ≡ On w
+  pub finish-zero : (w : Walk) (l : List ℕ) → w.pending ≡ 0 → finish s w (read_row s w.pending l) ≡ Some w
   unfolding read_row passed
   finish-zero w l e = ap (λ (n : ℕ). finish s w (read_row s n l)) e
 
-  -- the whole list is one formula where the walk ends at the list's end
-  abbrev pub judge : List ℕ → Turn → Result Size
-  judge l Broken = refused NotAFormula
-  judge l (On w) = pick (eqb w.at (length l)) (done (record { len = w.at; nodes = w.nodes; bound = w.bound })) (refused NotAFormula)
-
-  pub measure-law : (l : List ℕ) → measurement s l ≡ judge l (walked_at s l 0)
-  unfolding measurement read_all walked_at read_row passed
-  measure-law l = go (read s l) refl
-    where
-      go : (r : Got (Tree s)) → read s l ≡ r → size_read s (wholly r) ≡ judge l (finish s (record { at = 0; pending = 1; nodes = 0; bound = 0 }) (then r (λ t m. got (t ∷ []) m)))
-      go nothing e = refl
-      go (got t []) e =
-          let h : 0 + length (encode s t) ≡ length l = omega (arith, simp length-append at (ap length (encode-read s l t [] e))) in
-          rw (eq-eqb (0 + length (encode s t)) (length l) h) (ap done (size-eq (omega arith) (omega arith) (omega arith)))
-      go (got t (b ∷ m)) e =
-          let h : 0 + length (encode s t) ≡ length l → ⊥ = λ i. omega (arith, simp length-append at (ap length (encode-read s l t (b ∷ m) e))) in
-          rw (ne_eqb (0 + length (encode s t)) (length l) h)
-
   -- the size of the formula that the walk passed over
-  abbrev pub size_from : ℕ → Turn → Result Size
-  size_from at Broken = refused NotAFormula
-  size_from at (On w) = done (record { len = w.at - at; nodes = w.nodes; bound = w.bound })
+  abbrev pub size_from : ℕ → Option Walk → Result Size Refusal
+  size_from at None = Err NotAFormula
+  size_from at (Some w) = Ok (record { len = w.at - at; nodes = w.nodes; bound = w.bound })
 
   pub measure-at-law : (l : List ℕ) (at : ℕ) → measurement_at s l at ≡ size_from at (walked_at s l at)
   unfolding measurement_at walked_at read_row passed
@@ -247,27 +228,51 @@ module _ (s : Sort) where
     where
       go : (r : Got (Tree s)) → size_front s r ≡ size_from at (finish s (record { at = at; pending = 1; nodes = 0; bound = 0 }) (then r (λ t m. got (t ∷ []) m)))
       go nothing = refl
-      go (got t m) = ap done (size-eq (omega arith) (omega arith) (omega arith))
+      go (got t m) = ap Ok (size-eq (omega arith) (omega arith) (omega arith))
 
-  -- the part of the list that the walk passed over
-  abbrev pub Part : List ℕ → ℕ → List ℕ → Turn → Type 0
-  Part l at p Broken = [] ≡ p
-  Part l at p (On w) = (at ≤ w.at) × (w.at ≤ length l) × (take (w.at - at) (drop at l) ≡ p)
+  pub size-none : (l : List ℕ) (at : ℕ) → None ≡ walked_at s l at → Err NotAFormula ≡ measurement_at s l at
+  size-none l at e = sym (measure-at-law l at ∙ ap (size_from at) (sym e))
 
-  part-law : (l : List ℕ) (at : ℕ) → Part l at (part_at s l at) (walked_at s l at)
-  unfolding part_at walked_at read_row passed
+  -- the whole list is one formula where the one at its front is as long as the list
+  abbrev pub whole_size : List ℕ → Size → Result Size Refusal
+  whole_size l z = pick (eqb z.len (length l)) (Ok z) (Err NotAFormula)
+
+  abbrev pub judge : List ℕ → Result Size Refusal → Result Size Refusal
+  judge l (Err e) = Err e
+  judge l (Ok z) = whole_size l z
+
+  pub measure-law : (l : List ℕ) → measurement s l ≡ judge l (measurement_at s l 0)
+  unfolding measurement measurement_at read_all
+  measure-law l = go (read s l) refl
+    where
+      go : (r : Got (Tree s)) → read s l ≡ r → size_read s (wholly r) ≡ judge l (size_front s r)
+      go nothing e = refl
+      go (got t []) e =
+          let h : length (encode s t) ≡ length l = omega (arith, simp length-append at (ap length (encode-read s l t [] e))) in
+          rw (eq-eqb (length (encode s t)) (length l) h) refl
+      go (got t (b ∷ m)) e =
+          let h : length (encode s t) ≡ length l → ⊥ = λ i. omega (arith, simp length-append at (ap length (encode-read s l t (b ∷ m) e))) in
+          rw (ne_eqb (length (encode s t)) (length l) h) refl
+
+  -- the part of the list that the formula is
+  abbrev pub Part : List ℕ → ℕ → List ℕ → Result Size Refusal → Type 0
+  Part l at p (Err e) = [] ≡ p
+  Part l at p (Ok z) = (at + z.len ≤ length l) × (take (at + z.len - at) (drop at l) ≡ p)
+
+  pub part-law : (l : List ℕ) (at : ℕ) → Part l at (part_at s l at) (measurement_at s l at)
+  unfolding part_at measurement_at
   part-law l at = go (read s (drop at l)) refl
     where
-      go : (r : Got (Tree s)) → read s (drop at l) ≡ r → Part l at (bytes_of s r) (finish s (record { at = at; pending = 1; nodes = 0; bound = 0 }) (then r (λ t m. got (t ∷ []) m)))
+      go : (r : Got (Tree s)) → read s (drop at l) ≡ r → Part l at (bytes_of s r) (size_front s r)
       go nothing e = refl
       go (got t m) e =
           let i = encode-read s (drop at l) t m e in
           let k = simp (length-append, length-drop) at (ap length i) in
           let j = encode-pos s t in
-          (omega arith, omega arith, ap (take (at + length (encode s t) - at)) i ∙ take_at (encode s t) m (at + length (encode s t) - at) (omega arith))
+          (omega arith, ap (take (at + length (encode s t) - at)) i ∙ take_at (encode s t) m (at + length (encode s t) - at) (omega arith))
 
-  pub part-as : (l : List ℕ) (at : ℕ) (r : Turn) → walked_at s l at ≡ r → Part l at (part_at s l at) r
-  part-as l at r e = subst (Part l at (part_at s l at)) e (part-law l at)
+  pub part-as : (l : List ℕ) (at : ℕ) {r : Result Size Refusal} → r ≡ measurement_at s l at → Part l at (part_at s l at) r
+  part-as l at e = subst (Part l at (part_at s l at)) (sym e) (part-law l at)
 
 -- a step goes forward, within the list; a literal's dimension is that of its field
 abbrev pub Moves : List ℕ → ℕ → Advance → Type 0
@@ -296,9 +301,9 @@ moves s l at p = go (leb 1 p) (leb p (length l - at)) refl refl
     go true false e f = tt
     go false u e f = tt
 
-abbrev pub Advances : List ℕ → Walk → Turn → Type 0
-Advances l w Broken = Unit {0}
-Advances l w (On v) = (w.at < v.at) × (v.at ≤ length l) × (v.nodes ≡ w.nodes + 1)
+abbrev pub Advances : List ℕ → Walk → Option Walk → Type 0
+Advances l w None = Unit {0}
+Advances l w (Some v) = (w.at < v.at) × (v.at ≤ length l) × (v.nodes ≡ w.nodes + 1)
 
 advances-step : (l : List ℕ) (w : Walk) (x : Advance) → Moves l w.at x → Advances l w (counted w x)
 advances-step l w (Leaf q) h = (h.0, h.1, refl)

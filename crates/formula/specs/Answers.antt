@@ -1,10 +1,10 @@
 -- What the public functions answer.
-use Rattle.std.specs.Prelude.{ℕ, ◌+◌, ◌-◌, ◌≡◌, Bool, true, false, ◌&&◌, List, [], ◌∷◌, leb, eqb, length, get_or, drop}
+use Rattle.std.specs.Prelude.{ℕ, ◌+◌, ◌-◌, ◌≡◌, Bool, true, false, ◌&&◌, List, [], ◌∷◌, leb, eqb, length, get_or, drop, Result, Err, Ok}
+use Rattle.refusals.specs.declared.Refusal.{Refusal}
 use Rattle.std.proofs.Math.Option
 use Rattle.std.proofs.Math.Option.{Option, none, some}
 use Rattle.std.proofs.lemmas.List.Edits.{sets}
 use Rattle.refusals.specs.declared.Refusal.TheVariants.{NotAFormula, TooManyNodes, LargeDimension, LargeResult}
-use Rattle.refusals.specs.Refusals.{Result, refused, done}
 use Rattle.formula.specs.Formula.{ff, i0}
 use Rattle.formula.specs.Bytes.{Tree, dim_width, dim_at, encode, Node, leaf, lit, one, two, bad, node_of, Got, nothing, got, read, read_all, nodes, bound, max_nodes, max_bound}
 use Rattle.formula.specs.declared.Sort.{Sort}
@@ -12,10 +12,6 @@ use Rattle.formula.specs.declared.Sort.TheVariants.{Faces, Intervals}
 use Rattle.formula.specs.declared.Size.{Size}
 use Rattle.formula.specs.declared.Kind.{Kind}
 use Rattle.formula.specs.declared.Kind.TheVariants.{Nullary, Literal, Unary, Binary, Unknown}
-use Rattle.formula.specs.declared.Measured.{Measured}
-use Rattle.formula.specs.declared.Measured.TheVariants.{Formula, Ill}
-use Rattle.formula.specs.declared.Sized.{Sized}
-use Rattle.formula.specs.declared.Sized.TheVariants.{Fits, Refused}
 use Rattle.formula.specs.declared.Advance.{Advance}
 use Rattle.formula.specs.declared.Advance.TheVariants.{Leaf, Lit, One, Two, Stuck}
 
@@ -59,18 +55,13 @@ step_of s l at p = pick (leb 1 p && leb p (length l - at)) (step_by (node_of s (
 abbrev pub size_of : (s : Sort) → Tree s → Size
 size_of s t = record { len = length (encode s t); nodes = nodes s t; bound = bound s t }
 
--- What each answer of a measurement says.
-abbrev pub said_measured : Measured → Result Size
-said_measured (Formula z) = done z
-said_measured Ill = refused NotAFormula
-
 -- The size of what was read, or refusal 2.
-abbrev pub size_read : (s : Sort) → Option (Tree s) → Result Size
-size_read s none = refused NotAFormula
-size_read s (some t) = done (size_of s t)
+abbrev pub size_read : (s : Sort) → Option (Tree s) → Result Size Refusal
+size_read s none = Err NotAFormula
+size_read s (some t) = Ok (size_of s t)
 
 -- The size of the one formula that the whole list is, or refusal 2.
-unfoldable pub measurement : Sort → List ℕ → Result Size
+unfoldable pub measurement : Sort → List ℕ → Result Size Refusal
 measurement s l = size_read s (read_all s l)
 
 -- For the crates above: some formula of the sort, and the formula that the whole list is, or that one where it is none.
@@ -82,12 +73,12 @@ unfoldable pub tree_of : (s : Sort) → List ℕ → Tree s
 tree_of s l = Option.get_or (read_all s l) (any_tree s)
 
 -- The size of what was read off the front, or refusal 2.
-abbrev pub size_front : (s : Sort) → Got (Tree s) → Result Size
-size_front s nothing = refused NotAFormula
-size_front s (got t l) = done (size_of s t)
+abbrev pub size_front : (s : Sort) → Got (Tree s) → Result Size Refusal
+size_front s nothing = Err NotAFormula
+size_front s (got t l) = Ok (size_of s t)
 
 -- The size of the formula that starts at a place, or refusal 2.
-unfoldable pub measurement_at : Sort → List ℕ → ℕ → Result Size
+unfoldable pub measurement_at : Sort → List ℕ → ℕ → Result Size Refusal
 measurement_at s l at = size_front s (read s (drop at l))
 
 abbrev pub bytes_of : (s : Sort) → Got (Tree s) → List ℕ
@@ -102,25 +93,20 @@ part_at s l at = bytes_of s (read s (drop at l))
 abbrev pub keeps : Size → Bool
 keeps z = leb z.nodes max_nodes && leb z.bound max_bound
 
--- What each answer about an operand or a result says: its size, or the refusal.
-abbrev pub said_sized : Sized → Result Size
-said_sized (Fits z) = done z
-said_sized (Refused e) = refused e
-
 -- Questions 3 and 4 of what has this size, and question 5 of a result that has it.
-abbrev pub allowed : {A : Type 0} → Size → A → Result A
-allowed z a = pick (leb z.nodes max_nodes) (pick (leb z.bound max_bound) (done a) (refused LargeDimension)) (refused TooManyNodes)
+abbrev pub allowed : {A : Type 0} → Size → A → Result A Refusal
+allowed z a = pick (leb z.nodes max_nodes) (pick (leb z.bound max_bound) (Ok a) (Err LargeDimension)) (Err TooManyNodes)
 
-abbrev pub kept : {A : Type 0} → Size → A → Result A
-kept z a = pick (keeps z) (done a) (refused LargeResult)
+abbrev pub kept : {A : Type 0} → Size → A → Result A Refusal
+kept z a = pick (keeps z) (Ok a) (Err LargeResult)
 
 -- The formula that was read, where it keeps the limits; refusal 2 where there is none.
-abbrev pub as_operand : (s : Sort) → Option (Tree s) → Result (Tree s)
-as_operand s none = refused NotAFormula
+abbrev pub as_operand : (s : Sort) → Option (Tree s) → Result (Tree s) Refusal
+as_operand s none = Err NotAFormula
 as_operand s (some t) = allowed (size_of s t) t
 
 -- Questions 2 to 4 of an operand.
-unfoldable pub operand : (s : Sort) → List ℕ → Result (Tree s)
+unfoldable pub operand : (s : Sort) → List ℕ → Result (Tree s) Refusal
 operand s l = as_operand s (read_all s l)
 
 -- Are two lists of bytes equal?

@@ -2,4 +2,3 @@ pub mod Formula
 pub mod Operations
 pub mod Bytes
 pub mod Answers
-pub mod Walks

@@ -10,7 +10,6 @@ ghost use Rattle.formula.specs.Answers.{step_of};
 
 pub use bytes::{copy, put, same};
 pub use node::{DIM, dim_at, kind_of, literal_kind, put_dim};
-use refusals::Refusal;
 pub use walk::{formula_at, larger, measure, measure_at, operand, within};
 
 // The two sorts of formula.
@@ -36,20 +35,6 @@ pub struct Size {
     pub len: usize,
     pub nodes: usize,
     pub bound: usize,
-}
-
-// What a slice is found to be: exactly one formula, or not (refusal 2).
-#[derive(Clone, Copy)]
-pub enum Measured {
-    Formula(Size),
-    Ill,
-}
-
-// The size of an operand or of a result, or why it is refused.
-#[derive(Clone, Copy)]
-pub enum Sized {
-    Fits(Size),
-    Refused(Refusal),
 }
 
 // A place in a row of prefix formulas: `pending` of them are still to come from byte `at` on.

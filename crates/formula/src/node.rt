@@ -22,37 +22,24 @@ pub fn kind_of(sort: Sort, b: u8) -> Kind
 fn face_kind(b: u8) -> Kind
     ensures { result ≡ kind_of Sort.Faces b }
 {
-    if b < 2 {
-        return Kind::Nullary;
+    match b {
+        0..=1 => Kind::Nullary,
+        2..=3 => Kind::Literal,
+        4..=5 => Kind::Binary,
+        _ => Kind::Unknown,
     }
-    if b < 4 {
-        return Kind::Literal;
-    }
-    if b < 6 {
-        return Kind::Binary;
-    }
-    Kind::Unknown
 }
 
 fn interval_kind(b: u8) -> Kind
     ensures { result ≡ kind_of Sort.Intervals b }
 {
-    if b < 16 {
-        return Kind::Unknown;
+    match b {
+        16..=17 => Kind::Nullary,
+        18 => Kind::Literal,
+        19 => Kind::Unary,
+        20..=21 => Kind::Binary,
+        _ => Kind::Unknown,
     }
-    if b < 18 {
-        return Kind::Nullary;
-    }
-    if b < 19 {
-        return Kind::Literal;
-    }
-    if b < 20 {
-        return Kind::Unary;
-    }
-    if b < 22 {
-        return Kind::Binary;
-    }
-    Kind::Unknown
 }
 
 // The kind byte of a literal on a side, 0 for zero and 1 for one: at0 and at1 follow each other, so no branch is needed.
@@ -68,7 +55,7 @@ pub fn dim_at(s: &[u8], at: usize) -> usize
     requires { at + dim_width ≤ length s.now }
     ensures { (result ≡ dim_at s.now at) × (result < dim_space) }
 {
-    s[at] as usize
+    usize::from(s[at])
 }
 
 // Writes the field of dimension n at `at`.

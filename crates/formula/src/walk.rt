@@ -1,44 +1,26 @@
 // One pass over a formula: its length, node count and bound, and its part of the slice.
 ghost use Rattle.std.specs.Prelude.{◌≡◌, max, length};
 ghost use Rattle.refusals.specs.Refusals.{map};
-ghost use Rattle.formula.specs.Answers.{keeps, said_measured, measurement, measurement_at, said_sized, allowed, operand as operand_of, size_of, part_at};
-ghost use Rattle.formula.specs.Walks.{walked_at};
+ghost use Rattle.formula.specs.Answers.{keeps, measurement, measurement_at, allowed, operand as operand_of, size_of, part_at};
 
 use crate::node::DIM;
-use crate::{Kind, Measured, Size, Sized, Sort, node};
+use crate::{Kind, Size, Sort, node};
 use refusals::Refusal;
-
-// How far a walk has come, and what it has counted.
-#[derive(Clone, Copy)]
-struct Walk {
-    at: usize,
-    pending: usize,
-    nodes: usize,
-    bound: usize,
-}
-
-#[derive(Clone, Copy)]
-enum Turn {
-    On(Walk),
-    Broken,
-}
 
 // The larger of two numbers.
 pub fn larger(a: usize, b: usize) -> usize
     ensures { result ≡ max a b }
 {
-    if a < b {
-        return b;
-    }
-    a
+    a.max(b)
 }
 
-// The walk over the one formula that starts at `at`. What it counts are numbers of their own, which stay out of memory.
-fn walk_from(sort: Sort, s: &[u8], at: usize) -> Turn
-    ensures { result ≡ walked_at sort s.now at }
+// The size of the one formula of the sort that starts at `at`. What the walk counts are numbers of their own, which stay
+// out of memory.
+pub fn measure_at(sort: Sort, s: &[u8], at: usize) -> Result<Size, Refusal>
+    ensures { result ≡ measurement_at sort s.now at }
 {
     if s.len() <= at {
-        return Turn::Broken;
+        return Err(Refusal::NotAFormula);
     }
     let mut e = at;
     let mut pending: usize = 1;
@@ -46,13 +28,13 @@ fn walk_from(sort: Sort, s: &[u8], at: usize) -> Turn
     let mut bound: usize = 0;
     while 0 < pending {
         if s.len() - e < pending {
-            return Turn::Broken;
+            return Err(Refusal::NotAFormula);
         }
         match node::kind_of(sort, s[e]) {
             Kind::Nullary => pending -= 1,
             Kind::Literal => {
                 if s.len() - (e + 1) < DIM {
-                    return Turn::Broken;
+                    return Err(Refusal::NotAFormula);
                 }
                 bound = larger(bound, node::dim_at(s, e + 1) + 1);
                 e += DIM;
@@ -60,98 +42,66 @@ fn walk_from(sort: Sort, s: &[u8], at: usize) -> Turn
             }
             Kind::Unary => {}
             Kind::Binary => pending += 1,
-            Kind::Unknown => return Turn::Broken,
+            Kind::Unknown => return Err(Refusal::NotAFormula),
         }
         e += 1;
         nodes += 1;
     }
-    Turn::On(Walk {
-        at: e,
-        pending,
+    Ok(Size {
+        len: e - at,
         nodes,
         bound,
     })
 }
 
 // The size of the formula, exactly where the whole slice is one of the sort.
-pub fn measure(sort: Sort, s: &[u8]) -> Measured
-    ensures { said_measured result ≡ measurement sort s.now }
+pub fn measure(sort: Sort, s: &[u8]) -> Result<Size, Refusal>
+    ensures { result ≡ measurement sort s.now }
 {
-    match walk_from(sort, s, 0) {
-        Turn::On(w) => {
-            let at = w.at;
-            if at == s.len() {
-                return Measured::Formula(Size {
-                    len: at,
-                    nodes: w.nodes,
-                    bound: w.bound,
-                });
-            }
-            Measured::Ill
-        }
-        Turn::Broken => Measured::Ill,
+    let z = measure_at(sort, s, 0)?;
+    let whole = z.len == s.len();
+    if whole {
+        return Ok(z);
     }
-}
-
-// The size of the one formula of the sort that starts at `at`.
-pub fn measure_at(sort: Sort, s: &[u8], at: usize) -> Measured
-    ensures { said_measured result ≡ measurement_at sort s.now at }
-{
-    match walk_from(sort, s, at) {
-        Turn::On(w) => {
-            let end = w.at;
-            Measured::Formula(Size {
-                len: end - at,
-                nodes: w.nodes,
-                bound: w.bound,
-            })
-        }
-        Turn::Broken => Measured::Ill,
-    }
+    Err(Refusal::NotAFormula)
 }
 
 // The part of the slice that holds the one formula of the sort starting at `at`; empty where there is none.
 pub fn formula_at(sort: Sort, s: &[u8], at: usize) -> &[u8]
     ensures { result.now ≡ part_at sort s.now at }
 {
-    match walk_from(sort, s, at) {
-        Turn::On(w) => {
-            let e = w.at;
-            &s[at..e]
+    match measure_at(sort, s, at) {
+        Ok(z) => {
+            let end = at + z.len;
+            &s[at..end]
         }
-        Turn::Broken => &s[..0],
+        Err(_) => &s[..0],
     }
 }
 
 // Questions 3 and 4 of a size: 511 nodes, and dimensions to 254.
-fn limits(z: Size) -> Sized
-    ensures { said_sized result ≡ allowed z z }
+fn limits(z: Size) -> Result<Size, Refusal>
+    ensures { result ≡ allowed z z }
 {
     if 511 < z.nodes {
-        return Sized::Refused(Refusal::TooManyNodes);
+        return Err(Refusal::TooManyNodes);
     }
     if 255 < z.bound {
-        return Sized::Refused(Refusal::LargeDimension);
+        return Err(Refusal::LargeDimension);
     }
-    Sized::Fits(z)
+    Ok(z)
 }
 
 // Whether a size keeps the limits.
 pub fn within(z: Size) -> bool
     ensures { result ≡ keeps z }
 {
-    match limits(z) {
-        Sized::Fits(_) => true,
-        Sized::Refused(_) => false,
-    }
+    limits(z).is_ok()
 }
 
 // Questions 2 to 4 of one operand: its size, where it is exactly one formula of the sort and keeps the limits.
-pub fn operand(sort: Sort, s: &[u8]) -> Sized
-    ensures { said_sized result ≡ map (size_of sort) (operand_of sort s.now) }
+pub fn operand(sort: Sort, s: &[u8]) -> Result<Size, Refusal>
+    ensures { result ≡ map (size_of sort) (operand_of sort s.now) }
 {
-    match measure(sort, s) {
-        Measured::Formula(z) => limits(z),
-        Measured::Ill => Sized::Refused(Refusal::NotAFormula),
-    }
+    limits(measure(sort, s)?)
 }

@@ -1,9 +1,7 @@
 -- Refusals: document 01's numbers, and what is answered where something may be refused.
-use Rattle.std.specs.Prelude.{ℕ, true, false, leb}
+use Rattle.std.specs.Prelude.{ℕ, true, false, leb, Result, Ok, Err}
 use Rattle.refusals.specs.declared.Refusal.{Refusal}
 use Rattle.refusals.specs.declared.Refusal.TheVariants.{IllFormedLedger, NotAFormula, TooManyNodes, LargeDimension, LargeResult, ShortOutput, FullLedger, NotBelow, NotImplied, DoesNotFollow, NotAccepted, Implied, BeyondProducer}
-use Rattle.refusals.specs.declared.Counted.{Counted}
-use Rattle.refusals.specs.declared.Counted.TheVariants.{Number, Refused}
 
 -- The number of a refusal (document 01, "Questions at the door"; from 12 on document 02).
 abbrev pub number : Refusal → ℕ
@@ -25,28 +23,18 @@ number BeyondProducer = 13
 abbrev pub earlier : Refusal → Refusal → Refusal
 earlier e q = elim (leb (number e) (number q)) [ true ↦ e | false ↦ q ]
 
--- What was asked for, or why it is refused. The promises of functions that answer by an enum say which of these each case is.
-pub data Result (A : Type 0) : Type 0 where
-  refused : Refusal → Result A
-  done : A → Result A
+-- What is made of an answer to a question that may be refused; and what is made of it where that may be refused too.
+abbrev pub map : {A B : Type 0} → (A → B) → Result A Refusal → Result B Refusal
+map f (Err e) = Err e
+map f (Ok x) = Ok (f x)
 
--- The same, of what is made of it; and of what is made of it and may be refused too.
-abbrev pub map : {A B : Type 0} → (A → B) → Result A → Result B
-map f (refused e) = refused e
-map f (done x) = done (f x)
-
-abbrev pub of_one : {A B : Type 0} → (A → Result B) → Result A → Result B
-of_one f (refused e) = refused e
-of_one f (done x) = f x
+abbrev pub of_one : {A B : Type 0} → (A → Result B Refusal) → Result A Refusal → Result B Refusal
+of_one f (Err e) = Err e
+of_one f (Ok x) = f x
 
 -- The same of two: each question is asked of both before the next.
-abbrev pub of_two : {A B C : Type 0} → (A → B → Result C) → Result A → Result B → Result C
-of_two f (refused e) (refused q) = refused (earlier e q)
-of_two f (refused e) (done b) = refused e
-of_two f (done a) (refused q) = refused q
-of_two f (done a) (done b) = f a b
-
--- What an answer about a number says.
-abbrev pub said_counted : Counted → Result ℕ
-said_counted (Number n) = done n
-said_counted (Refused e) = refused e
+abbrev pub of_two : {A B C : Type 0} → (A → B → Result C Refusal) → Result A Refusal → Result B Refusal → Result C Refusal
+of_two f (Err e) (Err q) = Err (earlier e q)
+of_two f (Err e) (Ok b) = Err e
+of_two f (Ok a) (Err q) = Err q
+of_two f (Ok a) (Ok b) = f a b

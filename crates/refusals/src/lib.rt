@@ -5,7 +5,7 @@ ghost use Rattle.std.specs.Prelude.{◌≡◌};
 ghost use Rattle.refusals.specs.Refusals.{number as number_of, earlier as earlier_of};
 
 // Why something is refused (document 01, "Questions at the door"; from Implied on document 02).
-#[derive(Clone, Copy)]
+#[derive(Clone, Copy, PartialEq, Eq, PartialOrd, Ord)]
 pub enum Refusal {
     IllFormedLedger,
     NotAFormula,
@@ -20,13 +20,6 @@ pub enum Refusal {
     NotAccepted,
     Implied,
     BeyondProducer,
-}
-
-// A number that was asked for, or why it is refused.
-#[derive(Clone, Copy)]
-pub enum Counted {
-    Number(usize),
-    Refused(Refusal),
 }
 
 // Document 01's number of a refusal.
@@ -54,8 +47,5 @@ pub fn number(r: Refusal) -> usize
 pub fn earlier(e: Refusal, q: Refusal) -> Refusal
     ensures { result ≡ earlier_of e q }
 {
-    if number(e) <= number(q) {
-        return e;
-    }
-    q
+    e.min(q)
 }

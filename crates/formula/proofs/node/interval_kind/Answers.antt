@@ -1,22 +1,23 @@
+use native.Mathlib.Omega.{arith}
 use mathlib.Core.Path.{sym, ◌∙◌}
 use borrow.Author.Tests.{lt-ltb, le-ltb}
 use Rattle.formula.proofs.StepLaws.{interval-limits}
 use Rattle.formula.proofs.node.interval_kind.Goals as goal
 
-pub returns-then-b-lt16 : goal.returns-then-b-lt16
-returns-then-b-lt16 c = sym (interval-limits _ ∙ simp (lt-ltb _ _ c.if-b-lt16.true))
+pub returns-in-16-to-17 : goal.returns-in-16-to-17
+returns-in-16-to-17 c = sym (interval-limits _ ∙ simp (le-ltb c.args.b 16 (omega arith), lt-ltb c.args.b 18 (omega arith)))
 
-pub returns-then-b-lt18 : goal.returns-then-b-lt18
-returns-then-b-lt18 c = sym (interval-limits _ ∙ simp (le-ltb _ _ c.if-b-lt16.false, lt-ltb _ _ c.if-b-lt18.true))
+pub returns-in-18 : goal.returns-in-18
+returns-in-18 c = sym (interval-limits _ ∙ simp (le-ltb c.args.b 16 (omega arith), le-ltb c.args.b 18 (omega arith), lt-ltb c.args.b 19 (omega arith)))
 
-pub returns-then-b-lt19 : goal.returns-then-b-lt19
-returns-then-b-lt19 c = sym (interval-limits _ ∙ simp (le-ltb _ _ c.if-b-lt16.false, le-ltb _ _ c.if-b-lt18.false, lt-ltb _ _ c.if-b-lt19.true))
+pub returns-in-19 : goal.returns-in-19
+returns-in-19 c = sym (interval-limits _ ∙ simp (le-ltb c.args.b 16 (omega arith), le-ltb c.args.b 18 (omega arith), le-ltb c.args.b 19 (omega arith), lt-ltb c.args.b 20 (omega arith)))
 
-pub returns-then-b-lt20 : goal.returns-then-b-lt20
-returns-then-b-lt20 c = sym (interval-limits _ ∙ simp (le-ltb _ _ c.if-b-lt16.false, le-ltb _ _ c.if-b-lt18.false, le-ltb _ _ c.if-b-lt19.false, lt-ltb _ _ c.if-b-lt20.true))
+pub returns-in-20-to-21 : goal.returns-in-20-to-21
+returns-in-20-to-21 c = sym (interval-limits _ ∙ simp (le-ltb c.args.b 16 (omega arith), le-ltb c.args.b 18 (omega arith), le-ltb c.args.b 19 (omega arith), le-ltb c.args.b 20 (omega arith), lt-ltb c.args.b 22 (omega arith)))
 
-pub returns-then-b-lt22 : goal.returns-then-b-lt22
-returns-then-b-lt22 c = sym (interval-limits _ ∙ simp (le-ltb _ _ c.if-b-lt16.false, le-ltb _ _ c.if-b-lt18.false, le-ltb _ _ c.if-b-lt19.false, le-ltb _ _ c.if-b-lt20.false, lt-ltb _ _ c.if-b-lt22.true))
+pub returns-in_default : goal.returns-in_default
+returns-in_default c = sym (interval-limits _ ∙ simp (lt-ltb c.args.b 16 (omega arith)))
 
-pub returns : goal.returns
-returns c = sym (interval-limits _ ∙ simp (le-ltb _ _ c.if-b-lt16.false, le-ltb _ _ c.if-b-lt18.false, le-ltb _ _ c.if-b-lt19.false, le-ltb _ _ c.if-b-lt20.false, le-ltb _ _ c.if-b-lt22.false))
+pub returns-in_default-2 : goal.returns-in_default-2
+returns-in_default-2 c = sym (interval-limits _ ∙ simp (le-ltb c.args.b 16 (omega arith), le-ltb c.args.b 18 (omega arith), le-ltb c.args.b 19 (omega arith), le-ltb c.args.b 20 (omega arith), le-ltb c.args.b 22 (omega arith)))

@@ -1,7 +1,7 @@
 use Prim.Native.Nat.{◌-◌}
 use lib.ListN.{length}
 use Rattle.formula.proofs.WalkLaws.{Walking}
-use Rattle.formula.proofs.walk.walk_from.Given as goal
+use Rattle.formula.proofs.walk.measure_at.Given as goal
 
 abbrev pub invariant-loop-pending : goal.invariant-loop-pending
 invariant-loop-pending l = Walking l.sort l.s l.at (record { at = l.e; pending = l.pending; nodes = l.nodes; bound = l.bound })
