@@ -9,11 +9,10 @@ use lib.Dec.{leb, ltb}
 use lib.ListN.{length, get_or, get_or-map, replicate, get_or-replicate}
 use Rattle.calculus.proofs.Rows.{Row, row, Lt, nz, rows, row_at}
 use Rattle.rows.specs.declared.TheConstants.{STARTS}
-use Rattle.rows.specs.declared.Token.{Token}
 use Rattle.rows.specs.declared.Token.TheVariants.{Byte as byte, Number as number, Slot as slot, Front as front, Done as done, Pad as pad}
 use Rattle.rows.specs.declared.Item.{Item}
 use Rattle.rows.specs.declared.Item.TheVariants.{Claim as claim, Inside as inside}
-use Rattle.rows.specs.Items.{Fit}
+use Rattle.rows.specs.Items.{AllFit, RowFits}
 use Rattle.rows.specs.Flattening.{flat_f, flat_i, fronts, flat_faces, part, lines_in, all_lines, start_at}
 
 -- The parts between a number and the next.
@@ -93,38 +92,33 @@ few (inside (front k) ∷ is) = few is
 few (inside done ∷ is) = few is
 few (inside pad ∷ is) = few is
 
-few_at : (is : List Item) (d : Item) (t : Token) (i : ℕ) → few is ≡ true → i < length is → get_or is i d ≡ inside t → Fit t
+few_at : (is : List Item) → few is ≡ true → AllFit is
 unfolding few
-few_at [] d t i e h g = absurd (omega arith)
-few_at (x ∷ is) d t (suc i) e h g = few_at is d t i (rest x e) (omega arith) g
-  where
-    rest : (x : Item) → few (x ∷ is) ≡ true → few is ≡ true
-    rest (claim p) e = e
-    rest (inside (byte b)) e = e
-    rest (inside (number k v)) e = ((and-eq-true_iff (ltb v 8) (few is)).0 e).1
-    rest (inside (slot u)) e = ((and-eq-true_iff (ltb u 24) (few is)).0 e).1
-    rest (inside (front k)) e = e
-    rest (inside done) e = e
-    rest (inside pad) e = e
-few_at (x ∷ is) d t zero e h g = first x t e g
-  where
-    first : (x : Item) (t : Token) → few (x ∷ is) ≡ true → x ≡ inside t → Fit t
-    first x (byte b) e g = tt
-    first x (number k v) e g = ltb-true v 8 ((and-eq-true_iff (ltb v 8) (few is)).0 (rw g at e)).0
-    first x (slot u) e g = ltb-true u 24 ((and-eq-true_iff (ltb u 24) (few is)).0 (rw g at e)).0
-    first x (front k) e g = tt
-    first x done e g = tt
-    first x pad e g = tt
+few_at [] e i d h = absurd (omega arith)
+few_at (claim p ∷ is) e zero d h = tt
+few_at (claim p ∷ is) e (suc i) d h = few_at is e i d (omega arith)
+few_at (inside (byte b) ∷ is) e zero d h = tt
+few_at (inside (byte b) ∷ is) e (suc i) d h = few_at is e i d (omega arith)
+few_at (inside (number k v) ∷ is) e zero d h = ltb-true v 8 ((and-eq-true_iff (ltb v 8) (few is)).0 e).0
+few_at (inside (number k v) ∷ is) e (suc i) d h = few_at is ((and-eq-true_iff (ltb v 8) (few is)).0 e).1 i d (omega arith)
+few_at (inside (slot u) ∷ is) e zero d h = ltb-true u 24 ((and-eq-true_iff (ltb u 24) (few is)).0 e).0
+few_at (inside (slot u) ∷ is) e (suc i) d h = few_at is ((and-eq-true_iff (ltb u 24) (few is)).0 e).1 i d (omega arith)
+few_at (inside (front k) ∷ is) e zero d h = tt
+few_at (inside (front k) ∷ is) e (suc i) d h = few_at is e i d (omega arith)
+few_at (inside done ∷ is) e zero d h = tt
+few_at (inside done ∷ is) e (suc i) d h = few_at is e i d (omega arith)
+few_at (inside pad ∷ is) e zero d h = tt
+few_at (inside pad ∷ is) e (suc i) d h = few_at is e i d (omega arith)
 
 unfoldable all_few : List (List Item) → Bool
 all_few [] = true
 all_few (l ∷ ls) = few l && all_few ls
 
-all_few_at : (ls : List (List Item)) (k : ℕ) → all_few ls ≡ true → few (get_or ls k []) ≡ true
-unfolding all_few few
-all_few_at [] k e = refl
-all_few_at (l ∷ ls) zero e = ((and-eq-true_iff (few l) (all_few ls)).0 e).0
-all_few_at (l ∷ ls) (suc k) e = all_few_at ls k ((and-eq-true_iff (few l) (all_few ls)).0 e).1
+all_few_at : (ls : List (List Item)) → all_few ls ≡ true → RowFits ls
+unfolding all_few
+all_few_at [] e k d h = absurd (omega arith)
+all_few_at (l ∷ ls) e zero d h = few_at l ((and-eq-true_iff (few l) (all_few ls)).0 e).0
+all_few_at (l ∷ ls) e (suc k) d h = all_few_at ls ((and-eq-true_iff (few l) (all_few ls)).0 e).1 k d (omega arith)
 
 -- The computed test.
 rows-few : map (λ (r : Row). all_few (lines_in r)) rows ≡ replicate 75 true
@@ -132,8 +126,8 @@ unfolding all_few few flat_f flat_i fronts flat_faces rows
 rows-few = refl
 
 -- Every variable of a rule's lines fits the slots.
-pub fit_at : (k i : ℕ) (d : Item) (t : Token) → k < 75 → (line : List Item) (e : ℕ) → line ≡ get_or (lines_in (row_at k)) e [] → i < length line → get_or line i d ≡ inside t → Fit t
-fit_at k i d t h line e q b g = few_at line d t i (ap few q ∙ all_few_at (lines_in (row_at k)) e all) b g
-  where
-    all : all_few (lines_in (row_at k)) ≡ true
-    all = sym (get_or-map (λ (r : Row). all_few (lines_in r)) rows k (row (Lt nz nz) [])) ∙ ap (λ (l : List Bool). get_or l k (all_few (lines_in (row (Lt nz nz) [])))) rows-few ∙ get_or-replicate 75 k true (all_few (lines_in (row (Lt nz nz) []))) h
+pub row-fits : (k : ℕ) → k < 75 → RowFits (lines_in (row_at k))
+row-fits k h =
+    let e : Row = row (Lt nz nz) [] in
+    all_few_at (lines_in (row_at k))
+    (sym (get_or-map (λ (r : Row). all_few (lines_in r)) rows k e) ∙ ap (λ (l : List Bool). get_or l k (all_few (lines_in e))) rows-few ∙ get_or-replicate 75 k true (all_few (lines_in e)) h)

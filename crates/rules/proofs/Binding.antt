@@ -1,20 +1,21 @@
--- The slots of the environment: what a store leaves in them, and what a comparison says.
+-- What the variables are bound to: what a store leaves, and what a comparison says.
 use mathlib.Core.Path.{◌≡◌, refl, sym, ap, ◌∙◌, subst}
 use mathlib.Core.Bool.{Bool, true, false}
 use mathlib.Core.List.{List}
-use Prim.Native.Nat.{ℕ, zero, suc, ◌+◌, ◌-◌, ◌≤◌, ◌<◌}
+use Prim.Native.Nat.{ℕ, ◌+◌, ◌-◌, ◌≤◌, ◌<◌}
 use native.Mathlib.Omega.{arith}
 use native.Mathlib.Decide.{ℕ_discrete}
-use native.Mathlib.Numerals.{add-one}
 use borrow.Author.Tests.{lt-ltb, le-ltb, eq-eqb, ne_eqb, eqb-true}
 use lib.Dec.{eqb}
 use lib.ListN.{length, get_or, set, length-set}
 use lib.Seq.{get_or-set_same, get_or-set_other}
-use Rattle.formula.specs.Answers.{same_bytes}
-use Rattle.formula.proofs.ByteLaws.{same_refl, same_true}
+use Rattle.std.specs.Prelude.{None, Some}
 use Rattle.calculus.proofs.Rows.{Env, put}
-use Rattle.rules.specs.Standing.{part, Decides}
-use Rattle.rules.specs.Matching.{bytes_of, Held, num, bytes, held_in, Known, Agrees, Binds}
+use Rattle.rows.specs.Flattening.{part}
+use Rattle.rules.specs.Standing.{Decides}
+use Rattle.rules.specs.declared.slots.Span.{Span}
+use Rattle.rules.specs.declared.slots.Bindings.{Bindings}
+use Rattle.rules.specs.Matching.{bytes_of, Held, num, bytes, held_in, PartKnown, NumberKnown, Agrees, Binds}
 
 -- A function with one value changed.
 module _ {A : Type 0} (u : ℕ) (x : A) (f : ℕ → A) where
@@ -32,21 +33,12 @@ module _ {A : Type 0} (u : ℕ) (x : A) (f : ℕ → A) where
       go (no p) = put_other w p
 
 -- What is known of a slot carries over to an equal value.
-pub agrees-as : {l m : List ℕ} {H K : ℕ → Held} → ((w : ℕ) → w < 32 → H w ≡ K w) → Agrees l m H → Agrees l m K
-agrees-as {l} {m} e g = record { size = g.size; slots = λ w p. subst (Known l (get_or m w 0) (get_or m (w + 32) 0)) (e w p) (g.slots w p) }
-
--- Two things of one kind that a slot holds are the same.
-abbrev pub Alike : Held → Held → Type 0
-Alike (num a) (num b) = Unit {0}
-Alike (num a) (bytes x) = ⊥
-Alike (bytes x) (num a) = ⊥
-Alike (bytes x) (bytes y) = Unit {0}
-
-known-one : (l : List ℕ) (a b : ℕ) (x y : Held) → Alike x y → Known l a (suc b) x → Known l a (suc b) y → y ≡ x
-known-one l a b (num n) (num k) h p q = ap num (sym q ∙ p)
-known-one l a b (num n) (bytes k) h p q = absurd h
-known-one l a b (bytes n) (num k) h p q = absurd h
-known-one l a b (bytes n) (bytes k) h p q = ap bytes (sym q.2 ∙ p.2)
+pub agrees-as : {l : List ℕ} {m : Bindings} {H K : ℕ → Held} → ((w : ℕ) → w < 32 → H w ≡ K w) → Agrees l m H → Agrees l m K
+agrees-as {l} {m} e g = record {
+  sizes = g.sizes;
+  parts = λ u p. subst (PartKnown l (get_or m.parts u None)) (e u (omega arith)) (g.parts u p);
+  numbers = λ v p. subst (NumberKnown (get_or m.numbers v None)) (e (v + 24) (omega arith)) (g.numbers v p);
+}
 
 -- A slot of the bytes, and of the numbers.
 pub held_bytes : (E : Env) (u : ℕ) → u < 24 → held_in E u ≡ bytes (bytes_of E u)
@@ -55,108 +47,100 @@ held_bytes E u h = rw (lt-ltb u 24 h)
 pub held_number : (E : Env) (u : ℕ) → 24 ≤ u → held_in E u ≡ num (E.num (u - 24))
 held_number E u h = rw (le-ltb u 24 h)
 
--- A free slot is bound.
-module _ (l m : List ℕ) (u : ℕ) (x : Held) (a b : ℕ) (p : u < 32) (k : Known l a (suc b) x) (z : get_or m (u + 32) 0 ≡ 0) where
-  abbrev stored : List ℕ
-  stored = set (set m u a) (u + 32) (suc b)
+-- A free slot is bound, to bytes and to a number.
+module _ (l : List ℕ) (m : Bindings) (u a b : ℕ) (h : u < 24) (p : a ≤ b) (q : b ≤ length l) (z : get_or m.parts u None ≡ None) where
+  abbrev stored : Bindings
+  stored = record { parts = set m.parts u (Some (record { from = a; to = b })); numbers = m.numbers }
 
-  here : length m ≡ 64 → (get_or stored u 0 ≡ a) × (get_or stored (u + 32) 0 ≡ suc b)
-  here s = (
-    get_or-set_other (set m u a) (u + 32) u (suc b) 0 (λ e. omega arith) ∙ get_or-set_same m u a 0 (omega arith),
-    get_or-set_same (set m u a) (u + 32) (suc b) 0 (simp length-set (omega arith)),
-  )
+  same : length m.parts ≡ 24 → get_or stored.parts u None ≡ Some (record { from = a; to = b })
+  same e = get_or-set_same m.parts u (Some (record { from = a; to = b })) None (omega arith)
 
-  elsewhere : (w : ℕ) → w < 32 → (w ≡ u → ⊥) → (get_or stored w 0 ≡ get_or m w 0) × (get_or stored (w + 32) 0 ≡ get_or m (w + 32) 0)
-  elsewhere w q d = (
-    get_or-set_other (set m u a) (u + 32) w (suc b) 0 (λ e. omega arith) ∙ get_or-set_other m u w a 0 d,
-    get_or-set_other (set m u a) (u + 32) (w + 32) (suc b) 0 (λ e. d (omega arith)) ∙ get_or-set_other m u (w + 32) a 0 (λ e. omega arith),
-  )
+  other : (w : ℕ) → (w ≡ u → ⊥) → get_or stored.parts w None ≡ get_or m.parts w None
+  other w d = get_or-set_other m.parts u w (Some (record { from = a; to = b })) None d
 
-  forward : (H : ℕ → Held) → Agrees l m H → Agrees l stored (put u x H)
-  forward H g = record { size = simp length-set g.size; slots = λ w q. go w q (ℕ_discrete w u) }
+  pub free_part : Binds l m u (bytes (part l a b)) true stored
+  free_part = (λ E g. forward (held_in E) g, λ E g. backward (held_in E) g)
     where
-      go : (w : ℕ) → w < 32 → Dec (w ≡ u) → Known l (get_or stored w 0) (get_or stored (w + 32) 0) (put u x H w)
-      go w q (yes e) = rw (e, (here g.size).0, (here g.size).1, put_same u x H) k
-      go w q (no d) = rw ((elsewhere w q d).0, (elsewhere w q d).1, put_other u x H w d) (g.slots w q)
+      forward : (H : ℕ → Held) → Agrees l m H → Agrees l stored (put u (bytes (part l a b)) H)
+      forward H g = record {
+        sizes = (length-set m.parts u (Some (record { from = a; to = b })) ∙ g.sizes.0, g.sizes.1);
+        parts = λ w k. go w k (ℕ_discrete w u);
+        numbers = λ v k. subst (NumberKnown (get_or m.numbers v None)) (sym (put_other u (bytes (part l a b)) H (v + 24) (λ e. omega arith))) (g.numbers v k);
+      }
+        where
+          go : (w : ℕ) → w < 24 → Dec (w ≡ u) → PartKnown l (get_or stored.parts w None) (put u (bytes (part l a b)) H w)
+          go w k (yes e) = rw (e, same g.sizes.0, put_same u (bytes (part l a b)) H) (p, q, refl)
+          go w k (no d) = rw (other w d, put_other u (bytes (part l a b)) H w d) (g.parts w k)
 
-  backward : (H : ℕ → Held) → Alike x (H u) → Agrees l stored H → Agrees l m H × (H u ≡ x)
-  backward H c g = (record { size = size; slots = λ w q. go w q (ℕ_discrete w u) }, known-one l a b x (H u) c k known)
+      backward : (H : ℕ → Held) → Agrees l stored H → Agrees l m H × (H u ≡ bytes (part l a b))
+      backward H g = (record { sizes = (size, g.sizes.1); parts = λ w k. go w k (ℕ_discrete w u); numbers = g.numbers }, (rw (same size) at (g.parts u h)).2)
+        where
+          size : length m.parts ≡ 24
+          size = sym (length-set m.parts u (Some (record { from = a; to = b }))) ∙ g.sizes.0
+
+          go : (w : ℕ) → w < 24 → Dec (w ≡ u) → PartKnown l (get_or m.parts w None) (H w)
+          go w k (yes e) = rw (e, z) tt
+          go w k (no d) = rw (other w d) at (g.parts w k)
+
+module _ (l : List ℕ) (m : Bindings) (v n : ℕ) (h : v < 8) (z : get_or m.numbers v None ≡ None) where
+  abbrev noted : Bindings
+  noted = record { parts = m.parts; numbers = set m.numbers v (Some n) }
+
+  here : length m.numbers ≡ 8 → get_or noted.numbers v None ≡ Some n
+  here e = get_or-set_same m.numbers v (Some n) None (omega arith)
+
+  elsewhere : (w : ℕ) → (w ≡ v → ⊥) → get_or noted.numbers w None ≡ get_or m.numbers w None
+  elsewhere w d = get_or-set_other m.numbers v w (Some n) None d
+
+  pub free-number : Binds l m (v + 24) (num n) true noted
+  free-number = (λ E g. forward (held_in E) g, λ E g. backward (held_in E) g)
     where
-      size : length m ≡ 64
-      size = simp length-set at g.size
+      forward : (H : ℕ → Held) → Agrees l m H → Agrees l noted (put (v + 24) (num n) H)
+      forward H g = record {
+        sizes = (g.sizes.0, length-set m.numbers v (Some n) ∙ g.sizes.1);
+        parts = λ w k. subst (PartKnown l (get_or m.parts w None)) (sym (put_other (v + 24) (num n) H w (λ e. omega arith))) (g.parts w k);
+        numbers = λ w k. go w k (ℕ_discrete w v);
+      }
+        where
+          go : (w : ℕ) → w < 8 → Dec (w ≡ v) → NumberKnown (get_or noted.numbers w None) (put (v + 24) (num n) H (w + 24))
+          go w k (yes e) = rw (e, here g.sizes.1, put_same (v + 24) (num n) H)
+          go w k (no d) = rw (elsewhere w d, put_other (v + 24) (num n) H (w + 24) (λ e. d (omega arith))) (g.numbers w k)
 
-      known : Known l a (suc b) (H u)
-      known = rw ((here size).0, (here size).1) at (g.slots u p)
+      backward : (H : ℕ → Held) → Agrees l noted H → Agrees l m H × (H (v + 24) ≡ num n)
+      backward H g = (record { sizes = (g.sizes.0, size); parts = g.parts; numbers = λ w k. go w k (ℕ_discrete w v) }, rw (here size) at (g.numbers v h))
+        where
+          size : length m.numbers ≡ 8
+          size = sym (length-set m.numbers v (Some n)) ∙ g.sizes.1
 
-      go : (w : ℕ) → w < 32 → Dec (w ≡ u) → Known l (get_or m w 0) (get_or m (w + 32) 0) (H w)
-      go w q (yes e) = rw (e, z) tt
-      go w q (no d) = rw ((elsewhere w q d).0, (elsewhere w q d).1) at (g.slots w q)
-
-  pub bind-free : ((E : Env) → Alike x (held_in E u)) → Binds l m u x true stored
-  bind-free c = (λ E g. forward (held_in E) g, λ E g. backward (held_in E) (c E) g)
+          go : (w : ℕ) → w < 8 → Dec (w ≡ v) → NumberKnown (get_or m.numbers w None) (H (w + 24))
+          go w k (yes e) = rw (e, z) tt
+          go w k (no d) = rw (elsewhere w d) at (g.numbers w k)
 
 -- A bound slot is compared.
-pub bind-bound : (l m : List ℕ) (u : ℕ) (x : Held) (r : Bool) → ((E : Env) → Agrees l m (held_in E) → Decides r (held_in E u ≡ x)) → Binds l m u x r m
+bind-bound : (l : List ℕ) (m : Bindings) (u : ℕ) (x : Held) (r : Bool) → ((E : Env) → Agrees l m (held_in E) → Decides r (held_in E u ≡ x)) → Binds l m u x r m
 bind-bound l m u x true d = (λ E g. agrees-as (λ w p. sym (put_as u x (held_in E) (d E g) w)) g, λ E g. (g, d E g))
 bind-bound l m u x false d = d
 
--- By its number, and by its bytes.
-module _ (l : List ℕ) (c f : ℕ) (o : f ≡ 0 → ⊥) where
-  number-known : (y : Held) (n : ℕ) → Alike (num n) y → Known l c f y → Decides (eqb c n) (y ≡ num n)
-  number-known (num k) n h q = go f o q (eqb c n) refl
-    where
-      go : (f : ℕ) → (f ≡ 0 → ⊥) → Known l c f (num k) → (r : Bool) → eqb c n ≡ r → Decides r (num k ≡ num n)
-      go zero o q r e = absurd (o refl)
-      go (suc d) o q true e = ap num (sym q ∙ eqb-true c n e)
-      go (suc d) o q false e = λ i. let j : c ≡ n = cc in let z : ◌≡◌ {A = ℕ} 0 1 = cc (eq-eqb c n j) in omega arith
-  number-known (bytes k) n h q = absurd h
+pub compare-part : (l : List ℕ) (m : Bindings) (u : ℕ) (s : Span) (x : List ℕ) (r : Bool) → u < 24 → get_or m.parts u None ≡ Some s → Decides r (part l s.from s.to ≡ x) → Binds l m u (bytes x) r m
+compare-part l m u s x r h e d = bind-bound l m u (bytes x) r (λ E g. go r d (known E g))
+  where
+    known : (E : Env) → Agrees l m (held_in E) → held_in E u ≡ bytes (part l s.from s.to)
+    known E g = (rw e at (g.parts u h)).2
 
-  part-known : (y : Held) (x : List ℕ) → Alike (bytes x) y → Known l c f y → Decides (same_bytes (part l c (f - 1)) x) (y ≡ bytes x)
-  part-known (num k) x h q = absurd h
-  part-known (bytes k) x h q = go f o q
-    where
-      said : (d : ℕ) → part l c d ≡ k → (r : Bool) → same_bytes (part l c d) x ≡ r → Decides r (bytes k ≡ bytes x)
-      said d p true e = ap bytes (sym p ∙ same_true (part l c d) x e)
-      said d p false e = λ i. let j : part l c d ≡ x = cc in let z : ◌≡◌ {A = ℕ} 0 1 = cc (j, same_refl x) in omega arith
+    bytes-of : {y z : List ℕ} → bytes y ≡ bytes z → y ≡ z
+    bytes-of e = cc
 
-      go : (f : ℕ) → (f ≡ 0 → ⊥) → Known l c f (bytes k) → Decides (same_bytes (part l c (f - 1)) x) (bytes k ≡ bytes x)
-      go zero o q = absurd (o refl)
-      go (suc d) o q = let e : suc d - 1 ≡ d = omega arith in rw e (said d q.2 (same_bytes (part l c d) x) refl)
+    go : {y : Held} (r : Bool) → Decides r (part l s.from s.to ≡ x) → y ≡ bytes (part l s.from s.to) → Decides r (y ≡ bytes x)
+    go true d k = k ∙ ap bytes d
+    go false d k = λ i. d (bytes-of (sym k ∙ i))
 
-  -- The range that a slot holds lies in the ledger.
-  pub part-range : (x : List ℕ) → Known l c f (bytes x) → (c ≤ f - 1) × (f - 1 ≤ length l)
-  part-range x q = go f o q
-    where
-      go : (f : ℕ) → (f ≡ 0 → ⊥) → Known l c f (bytes x) → (c ≤ f - 1) × (f - 1 ≤ length l)
-      go zero o q = absurd (o refl)
-      go (suc d) o q = (omega (arith, q.0), omega (arith, q.1))
+pub compare-number : (l : List ℕ) (m : Bindings) (v n k : ℕ) → v < 8 → get_or m.numbers v None ≡ Some k → Binds l m (v + 24) (num n) (eqb k n) m
+compare-number l m v n k h e = bind-bound l m (v + 24) (num n) (eqb k n) (λ E g. go (eqb k n) refl (rw e at (g.numbers v h)))
+  where
+    go : {y : Held} (r : Bool) → eqb k n ≡ r → y ≡ num k → Decides r (y ≡ num n)
+    go true e i = i ∙ ap num (eqb-true k n e)
+    go false e i = λ j. let c : k ≡ n = cc in let z : ◌≡◌ {A = ℕ} 0 1 = cc (eq-eqb k n c) in omega arith
 
-pub alike-number : (E : Env) (v n : ℕ) → Alike (num n) (held_in E (v + 24))
-alike-number E v n = rw (held_number E (v + 24) (omega arith)) tt
-
-pub alike-bytes : (E : Env) (u : ℕ) (x : List ℕ) → u < 24 → Alike (bytes x) (held_in E u)
-alike-bytes E u x h = rw (held_bytes E u h) tt
-
-pub compare-number : (l m : List ℕ) (v n : ℕ) → v < 8 → (get_or m (v + 56) 0 ≡ 0 → ⊥) → Binds l m (v + 24) (num n) (eqb (get_or m (v + 24) 0) n) m
-compare-number l m v n h o =
-    let e : v + 24 + 32 ≡ v + 56 = omega arith in
-    bind-bound l m (v + 24) (num n) (eqb (get_or m (v + 24) 0) n) (λ E g. number-known l (get_or m (v + 24) 0) (get_or m (v + 56) 0) o (held_in E (v + 24)) n (alike-number E v n) (rw e at (g.slots (v + 24) (omega arith))))
-
-pub compare-part : (l m : List ℕ) (u : ℕ) (x : List ℕ) → u < 24 → (get_or m (u + 32) 0 ≡ 0 → ⊥) → Binds l m u (bytes x) (same_bytes (part l (get_or m u 0) (get_or m (u + 32) 0 - 1)) x) m
-compare-part l m u x h o =
-    bind-bound l m u (bytes x) (same_bytes (part l (get_or m u 0) (get_or m (u + 32) 0 - 1)) x) (λ E g. part-known l (get_or m u 0) (get_or m (u + 32) 0) o (held_in E u) x (alike-bytes E u x h) (g.slots u (omega arith)))
-
-pub bound-range : (l m : List ℕ) (u : ℕ) (E : Env) → u < 24 → (get_or m (u + 32) 0 ≡ 0 → ⊥) → Agrees l m (held_in E) → (get_or m u 0 ≤ get_or m (u + 32) 0 - 1) × (get_or m (u + 32) 0 - 1 ≤ length l)
-bound-range l m u E h o g = part-range l (get_or m u 0) (get_or m (u + 32) 0) o (bytes_of E u) (rw (held_bytes E u h) at (g.slots u (omega arith)))
-
--- A free slot, by its number, and by its bytes.
-pub free-number : (l m : List ℕ) (v n : ℕ) → v < 8 → get_or m (v + 56) 0 ≡ 0 → Binds l m (v + 24) (num n) true (set (set m (v + 24) n) (v + 56) 1)
-free-number l m v n h z =
-    let e : v + 24 + 32 ≡ v + 56 = omega arith in
-    rw e at (bind-free l m (v + 24) (num n) n 0 (omega arith) refl (rw e z) (λ E. alike-number E v n))
-
-pub free_part : (l m : List ℕ) (u a b : ℕ) → u < 24 → a ≤ b → b ≤ length l → get_or m (u + 32) 0 ≡ 0 → Binds l m u (bytes (part l a b)) true (set (set m u a) (u + 32) (b + 1))
-free_part l m u a b h p q z = rw (add-one b) (bind-free l m u (bytes (part l a b)) a b (omega arith) (p, q, refl) z (λ E. alike-bytes E u (part l a b) h))
-
-pub said-part : (l m : List ℕ) (u a b : ℕ) → u < 24 → (get_or m (u + 32) 0 ≡ 0 → ⊥) → (r : Bool) → r ≡ same_bytes (part l (get_or m u 0) (get_or m (u + 32) 0 - 1)) (part l a b) → Binds l m u (bytes (part l a b)) r m
-said-part l m u a b h o r e = rw e (compare-part l m u (part l a b) h o)
+-- The range that a slot holds lies in the ledger.
+pub bound-range : (l : List ℕ) (m : Bindings) (u : ℕ) (s : Span) (E : Env) → u < 24 → get_or m.parts u None ≡ Some s → Agrees l m (held_in E) → (s.from ≤ s.to) × (s.to ≤ length l)
+bound-range l m u s E h e g = let k = rw e at (g.parts u h) in (k.0, k.1)
