@@ -1,5 +1,5 @@
 -- The answers of the tests of a context, as moves, and the moves that close the search.
-use Rattle.std.specs.Prelude.{◌≡◌, Bool, true, false, List, [], ◌∷◌, ◌++◌, ℕ, suc, ◌+◌, ◌-◌, ◌*◌, ◌≤◌, ◌<◌, length, get_or, set, take, drop}
+use Rattle.std.specs.Prelude.{◌≡◌, Bool, true, false, List, [], ◌∷◌, ◌++◌, ℕ, suc, ◌+◌, ◌-◌, ◌*◌, ◌≤◌, ◌<◌, length, get_or, set, take, drop, Option, None, Some}
 use Rattle.formula.specs.Formula.{lo, hi, Face, ff, ft, at, fand, for}
 use Rattle.calculus.specs.Search.{Move, by-clash, stuck, split_of, try_left}
 use Rattle.calculus.specs.Judgement.{Step, cover}
@@ -7,13 +7,11 @@ use Rattle.calculus.specs.Emit.{Program, emit, ◌>>=◌, done, run}
 use Rattle.calculus.specs.Calls.{emit_member, emit_cover}
 use Rattle.index.specs.declared.Found.{Found}
 use Rattle.index.specs.declared.Found.TheVariants.{At, Absent}
-use Rattle.contexts.specs.declared.moves.Clash.{Clash}
-use Rattle.contexts.specs.declared.moves.Clash.TheVariants.{Of, Free}
 
--- The move of a clash.
-abbrev pub clash_by : Clash → Move
-clash_by (Of n) = by-clash n
-clash_by Free = stuck
+-- The move of a clash at a dimension, if there is one.
+abbrev pub clash_by : Option ℕ → Move
+clash_by (Some n) = by-clash n
+clash_by None = stuck
 
 -- Is the face compound?
 abbrev pub compound : Face → Bool
@@ -27,10 +25,16 @@ compound (for x y) = true
 abbrev pub split_at : List Face → List Face → ℕ → Move
 split_at b G i = split_of (b ++ take i G) (get_or G i ff) (drop (suc i) G)
 
--- The left try splits G at number i, whatever is before it.
-pub record FirstCompound (G : List Face) (i : ℕ) : Type 0 where
+-- The left try splits G at number i, a compound, whatever is before it.
+pub record Compound (G : List Face) (i : ℕ) : Type 0 where
+  pub inside : i < length G
   pub splits : (b : List Face) → try_left b G ≡ split_at b G i
-  pub there : i < length G → compound (get_or G i ff) ≡ true
+  pub there : compound (get_or G i ff) ≡ true
+
+-- The number of the first compound; where there is none, the left try is stuck.
+abbrev pub FirstCompound : List Face → Option ℕ → Type 0
+FirstCompound G (Some i) = Compound G i
+FirstCompound G None = (b : List Face) → try_left b G ≡ stuck
 
 -- A cover step of this kind, from the step that f is in the context.
 abbrev pub cover_by : ℕ → Face → List Face → Face → Program
