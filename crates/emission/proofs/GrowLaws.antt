@@ -4,7 +4,7 @@ use native.Mathlib.Omega.{arith}
 use native.Mathlib.Nat.{zero-add, suc-add}
 use native.Mathlib.Numerals.{add-one}
 use mathlib.Core.Path.{◌≡◌, refl, sym, ap, ap₂, ◌∙◌, subst}
-use mathlib.Core.Bool.{true, false}
+use Rattle.std.specs.Prelude.{Some, None}
 use mathlib.Core.List.{List, [], ◌∷◌, ◌++◌, append_assoc, append-nil}
 use lib.ListN.{length, get_or, take, drop, replicate, length-append, length-replicate}
 use lib.Seq.{sets, take-suc, drop_at, length-take-le}
@@ -131,7 +131,7 @@ undo-bytes {l} L T h used e =
 -- A step more, where there is room.
 pub appends : {l : List ℕ} → Led l → (kind n at used : ℕ) (is x d l' : List ℕ) → length is ≡ n → at ≡ size (steps_of l) → size (steps_of l) + (6 + 4 * n + length x) ≤ length l
     → used + 4 ≡ size (steps_of l) + (6 + 4 * n + length x) → d ≡ sets l at (raw_record kind is x) → l' ≡ sets d 0 (little_endian 4 used)
-    → (s : Step) → StandsFor s kind is x → Appends l s true l'
+    → (s : Step) → StandsFor s kind is x → Appends l s (Some at) l'
 appends {l} h kind n at used is x d l' e g f u p q s t =
     let r = stands-record t in
     let m = size-more (steps_of l) s in
@@ -140,7 +140,7 @@ appends {l} h kind n at used is x d l' e g f u p q s t =
 
 -- Where there is none, nothing changes.
 pub keeps-all : (l : List ℕ) (kind n : ℕ) (is x : List ℕ) → length is ≡ n → length l < size (steps_of l) + (6 + 4 * n + length x)
-    → (s : Step) → StandsFor s kind is x → Appends l s false l
+    → (s : Step) → StandsFor s kind is x → Appends l s None l
 keeps-all l kind n is x e f s t =
     let k : length (record_bytes s) ≡ 6 + 4 * n + length x = sym (ap length (stands-record t)) ∙ raw-length kind is x ∙ ap (λ (j : ℕ). 6 + 4 * j + length x) e in
     (omega (arith, size-more (steps_of l) s), refl)

@@ -2,7 +2,6 @@
 use Prim.Native.Nat.{ℕ, suc, ◌<◌, ◌≤◌}
 use native.Mathlib.Omega.{arith}
 use mathlib.Core.Path.{◌≡◌, sym, ap, ap₂, ◌∙◌, subst}
-use mathlib.Core.Bool.{true, false}
 use mathlib.Core.List.{List, [], ◌∷◌, ◌++◌}
 use lib.ListN.{length, take, length-append}
 use lib.Seq.{get_or-append_seam}
@@ -10,7 +9,8 @@ use Rattle.calculus.specs.Judgement.{Step}
 use Rattle.calculus.specs.Table.{predicate, entry_of}
 use Rattle.calculus.specs.Record.{operand_bytes, size, FormedStep, Holds}
 use Rattle.kinds.specs.Kinds.{number_of, entry_as}
-use Rattle.kinds.specs.declared.Entry.TheVariants.{Listed}
+use Rattle.kinds.specs.declared.Entry.{Entry as Listed}
+use Rattle.std.specs.Prelude.{Some, None}
 use Rattle.kinds.proofs.KindLaws.{listed_same}
 use Rattle.ledger.specs.Ledger.{steps_of, place_of}
 use Rattle.ledger.proofs.LedgerLaws.{holds-steps, holds-led, place-last}
@@ -23,7 +23,7 @@ use Rattle.emission.proofs.EmitLaws.{holds_more}
 
 -- A step more in the ledger, and in the index.
 module _ {l x : List ℕ} (e : Indexed l x) (p b at : ℕ) (o l' x' : List ℕ) (is : b ≡ bucket_of (heads_of x) p o) (below : b < heads_of x) (behind : at ≡ size (steps_of l)) (enters : Enters x b at x')
-    (s : Step) (formed : FormedStep (length (steps_of l)) s) (number : number_of (predicate s.judgement) ≡ p) (judges : operand_bytes s.judgement ≡ o) (grew : Appends l s true l') where
+    (s : Step) (formed : FormedStep (length (steps_of l)) s) (number : number_of (predicate s.judgement) ≡ p) (judges : operand_bytes s.judgement ≡ o) (grew : Appends l s (Some at) l') where
   abbrev L : List Step
   L = steps_of l
 
@@ -64,11 +64,11 @@ module _ {l x : List ℕ} (e : Indexed l x) (p b at : ℕ) (o l' x' : List ℕ) 
       same_shape x (holds-led holds.1) (omega (arith, e.room, holds.0)) n a
 
 -- Where there is no room, nothing changes.
-pub indexed-full : {l x : List ℕ} → Indexed l x → (s : Step) (l' : List ℕ) → Appends l s false l' → Indexed l' x
+pub indexed-full : {l x : List ℕ} → Indexed l x → (s : Step) (l' : List ℕ) → Appends l s None l' → Indexed l' x
 indexed-full {l} {x} e s l' g = subst (λ (m : List ℕ). Indexed m x) (sym g.1) e
 
 -- By the entry of the kind: as many references as it says.
-pub keeps-as : (l l' x' : List ℕ) (kind n p : ℕ) (references o : List ℕ) → Listed n p ≡ entry_as (entry_of kind) → KeepsAs l kind (take n references) p o l' x' → Keeps l kind references o l' x'
-keeps-as l l' x' kind n p references o e h s f t =
+pub keeps-as : (l l' x' : List ℕ) (kind : ℕ) (n : Listed) (references o : List ℕ) → Some n ≡ entry_as (entry_of kind) → KeepsAs l kind (take n.references references) n.predicate o l' x' → Keeps l kind references o l' x'
+keeps-as l l' x' kind n references o e h s f t =
     let g = listed_same (e ∙ ap (λ (k : ℕ). entry_as (entry_of k)) (sym t.kinds) ∙ ap entry_as f.listed.listed) in
     h s f (record { kinds = t.kinds; refers = t.refers ∙ ap (λ (m : ℕ). take m references) (sym g.0); judges = t.judges }) (sym g.1)

@@ -1,56 +1,49 @@
 // A record more at the end, and back to fewer.
-ghost use Rattle.std.specs.Prelude.{◌≡◌, ◌+◌, ◌*◌, ◌≤◌, length, take};
+ghost use Rattle.std.specs.Prelude.{◌≡◌, ◌+◌, ◌*◌, ◌≤◌, length};
 ghost use Rattle.std.proofs.lemmas.List.Edits.{sets};
 ghost use Rattle.calculus.specs.Record.{references_bytes, size};
 ghost use Rattle.ledger.specs.Ledger.{steps_of, Led};
 ghost use Rattle.emission.specs.Emitting.{raw_record, Appended, Undone};
 
-// Writes the first n references from `at` on.
-fn put_references(l: &mut [u8], at: usize, references: [usize; 3], n: usize)
-    requires { (n ≤ 3) × (at + 4 * n ≤ length l.old) }
-    ensures { l.new ≡ sets l.old at (references_bytes (take n references)) }
+// Writes the references from `at` on.
+fn put_references(l: &mut [u8], at: usize, references: &[usize])
+    requires { at + 4 * length references.now ≤ length l.old }
+    ensures { l.new ≡ sets l.old at (references_bytes references.now) }
 {
-    let mut j: usize = 0;
-    while j < n {
-        records::put4(l, at + 4 * j, references[j]);
-        j += 1;
+    for (j, &reference) in references.iter().enumerate() {
+        records::put4(l, at + 4 * j, reference);
     }
 }
 
-// Writes the record of a step of this kind with n references from `at` on.
-fn put_record(
-    l: &mut [u8],
-    at: usize,
-    kind: usize,
-    references: [usize; 3],
-    n: usize,
-    operands: &[u8],
-)
-    requires { (n ≤ 3) × (at + 6 + 4 * n + length operands.now ≤ length l.old) }
-    ensures { l.new ≡ sets l.old at (raw_record kind (take n references) operands.now) }
+// Writes the record of a step of this kind from `at` on.
+fn put_record(l: &mut [u8], at: usize, kind: usize, references: &[usize], operands: &[u8])
+    requires { at + 6 + 4 * length references.now + length operands.now ≤ length l.old }
+    ensures { l.new ≡ sets l.old at (raw_record kind references.now operands.now) }
 {
+    let n = references.len();
     records::put4(l, at, 2 + 4 * n + operands.len());
     records::put2(l, at + 4, kind);
-    put_references(l, at + 6, references, n);
+    put_references(l, at + 6, references);
     formula::copy(operands, l, at + 6 + 4 * n);
 }
 
-// One step more, where there is room; else nothing changes.
-pub fn append(l: &mut [u8], kind: usize, references: [usize; 3], n: usize, operands: &[u8]) -> bool
-    requires { Led l.old × (n ≤ 3) }
-    ensures { Appended l.old kind (take n references) operands.now result l.new }
+// One step more and where its record begins, where there is room; else nothing changes.
+pub fn append(l: &mut [u8], kind: usize, references: &[usize], operands: &[u8]) -> Option<usize>
+    requires { Led l.old × (length references.now ≤ 3) }
+    ensures { Appended l.old kind references.now operands.now result l.new }
 {
     let at = ledger::used(l);
     let room = l.len() - at;
+    let n = references.len();
     if room < operands.len() {
-        return false;
+        return None;
     }
     if room - operands.len() < 6 + 4 * n {
-        return false;
+        return None;
     }
-    put_record(l, at, kind, references, n, operands);
+    put_record(l, at, kind, references, operands);
     records::put4(l, 0, at + 2 + 4 * n + operands.len());
-    true
+    Some(at)
 }
 
 // Back to records that end at `end`: what was behind them becomes zeros.

@@ -6,10 +6,3 @@ mod grow;
 
 pub use emit::emit_step;
 pub use grow::{append, undo};
-
-// The number of the step, or that the ledger has no room for it.
-#[derive(Clone, Copy)]
-pub enum Emitted {
-    Step(usize),
-    Full,
-}

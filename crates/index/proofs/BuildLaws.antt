@@ -1,13 +1,12 @@
 -- The pass that makes an index.
 use Prim.Native.Nat.{ℕ, suc, ◌+◌, ◌*◌, ◌-◌, ◌/◌, ◌≤◌, ◌<◌}
 use native.Mathlib.Omega.{arith}
-use mathlib.Core.Path.{◌≡◌, refl, sym, ap, ◌∙◌, subst, subst₂}
-use mathlib.Core.List.{List, []}
-use lib.ListN.{length, get_or, drop, replicate, length-replicate, get_or-replicate, get_or-append}
-use lib.Seq.{sets, length-sets}
+use mathlib.Core.Path.{◌≡◌, refl, sym, ap, ◌∙◌, subst₂}
+use mathlib.Core.List.{List, ◌++◌}
+use lib.ListN.{length, get_or, take, drop, replicate, length-replicate, length-append, length-drop, take-append-drop, get_or-replicate, get_or-append}
+use lib.Seq.{length-take-le}
 use Rattle.calculus.specs.Judgement.{Step}
 use Rattle.calculus.specs.Record.{size, Holds}
-use Rattle.records.proofs.NumberLaws.{sets_behind}
 use Rattle.ledger.specs.Ledger.{steps_of, Led, place_of, Points}
 use Rattle.ledger.proofs.PointLaws.{Walks, walks-start, walks_next, walks-end}
 use Rattle.index.specs.Index.{bucket_at, heads_of, places_from, IndexedTo, Roomy, Indexed, Entered, Enterable, Enters}
@@ -15,14 +14,8 @@ use Rattle.index.proofs.EnterLaws.{entered-length, indexed-after, indexed-none}
 use Rattle.index.proofs.RoomLaws.{holds-eight}
 
 -- Zeros in front are an index of no steps.
-cleared : (x : List ℕ) (n i : ℕ) → n ≤ length x → i < n → get_or (sets x 0 (replicate n 0)) i 0 ≡ 0
-cleared x n i h b =
-    let r = replicate {A = ℕ} n 0 in
-    let k : length r ≡ n = length-replicate {A = ℕ} n 0 in
-    ap (λ (y : List ℕ). get_or y i 0) (sets_behind [] x r 0 refl (omega arith)) ∙ get_or-append r (drop (length r) x) 0 i (omega arith) ∙ get_or-replicate n i 0 0 b
-
-none-indexed : (H P : ℕ) (L : List Step) (x y : List ℕ) → 1 + H ≤ length x → y ≡ sets x 0 (replicate (1 + H) 0) → IndexedTo H P L y 0
-none-indexed H P L x y h e = subst (λ (z : List ℕ). IndexedTo H P L z 0) (sym e) (indexed-none H P L (sets x 0 (replicate (1 + H) 0)) (λ i b. cleared x (1 + H) i h b))
+cleared : (x : List ℕ) (n i : ℕ) → i < n → get_or (replicate n 0 ++ drop n x) i 0 ≡ 0
+cleared x n i b = get_or-append (replicate n 0) (drop n x) 0 i (omega (arith, length-replicate {A = ℕ} n 0)) ∙ get_or-replicate n i 0 0 b
 
 -- Where the pass stands: the steps so far are indexed.
 pub record Building (l : List ℕ) (h n : ℕ) (x : List ℕ) (step at : ℕ) : Type 0 where
@@ -36,16 +29,24 @@ pub record Building (l : List ℕ) (h n : ℕ) (x : List ℕ) (step at : ℕ) : 
 pub enterable : (l : List ℕ) (L : List Step) (x : List ℕ) (n : ℕ) → Holds l L → Roomy l x → n < length L → get_or x 0 0 ≡ n → Enterable x
 enterable l L x n h r b e = (omega (arith, holds-eight h, h.small), omega (arith, holds-eight h))
 
-pub build-start : {l : List ℕ} → Led l → (h : ℕ) (x y : List ℕ) → h ≡ heads_of x → Roomy l x → y ≡ sets x 0 (replicate (1 + h) 0) → Building l h (length y) y 0 4
-build-start {l} d h x y e r k =
-    let n : length y ≡ length x = ap length k ∙ length-sets x 0 (replicate (1 + h) 0) in
-    record {
+pub build-start : {l : List ℕ} → Led l → (h : ℕ) (x z : List ℕ) → h ≡ heads_of x → Roomy l x → z ≡ replicate (length (take (1 + h) x)) 0
+    → {step at : ℕ} → (step ≡ 0) × (at ≡ 4) → Building l h (length (z ++ drop (1 + h) x)) (z ++ drop (1 + h) x) step at
+build-start {l} d h x z e r k {step} {at} s =
+    let y : List ℕ = replicate (1 + h) 0 ++ drop (1 + h) x in
+    let a : length (take (1 + h) x) ≡ 1 + h = length-take-le (1 + h) x (omega (arith, holds-eight d)) in
+    let f : z ++ drop (1 + h) x ≡ y = ap (λ (v : List ℕ). v ++ drop (1 + h) x) (k ∙ ap (λ (n : ℕ). replicate {A = ℕ} n 0) a) in
+    let n : length y ≡ length x = omega (arith, length-append (replicate (1 + h) 0) (drop (1 + h) x), length-replicate {A = ℕ} (1 + h) 0, length-drop (1 + h) x, holds-eight d) in
+    rw (f, s.0, s.1) (record {
       walks = walks-start d;
       heads = e ∙ ap (λ (m : ℕ). 4 * ((m - 2) / 21) + 1) (sym n);
       room = omega (arith, n);
       long = refl;
-      steps = none-indexed h (places_from y) (steps_of l) x y (omega (arith, holds-eight d)) k;
-    }
+      steps = indexed-none h (places_from y) (steps_of l) y (λ i b. cleared x (1 + h) i b);
+    })
+
+-- Every store keeps the length.
+pub zeroed-length : (x z : List ℕ) (n : ℕ) → length z ≡ length (take n x) → length (z ++ drop n x) ≡ length x
+zeroed-length x z n e = omega (arith, length-append z (drop n x), e, ap length (take-append-drop n x), length-append (take n x) (drop n x))
 
 -- One step more.
 pub build-turn : {l : List ℕ} {h n : ℕ} {x : List ℕ} {step at : ℕ} → Building l h n x step at → Points l step at → {b : ℕ} → (b ≡ bucket_at h (steps_of l) step) × (b < h)

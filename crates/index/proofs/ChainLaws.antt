@@ -9,14 +9,14 @@ use lib.Dec.{eqb}
 use lib.ListN.{length, drop, get_or-append}
 use lib.Seq.{drop-cons, drop-length}
 use borrow.Author.Tests.{eqb-true, eqb-false}
-use Rattle.formula.specs.Answers.{same_bytes}
+use Rattle.formula.specs.Answers.{same_bytes, pick}
 use Rattle.formula.proofs.ByteLaws.{same_true}
 use Rattle.calculus.specs.Judgement.{Step}
 use Rattle.calculus.specs.Table.{predicate}
 use Rattle.calculus.specs.Rules.{step_at, judgement_at}
 use Rattle.calculus.specs.Record.{operand_bytes}
 use Rattle.kinds.specs.Kinds.{number_of}
-use Rattle.index.specs.declared.Found.TheVariants.{At, Absent}
+use Rattle.std.specs.Prelude.{Option as Found, Some, None, Ok, Err}
 use Rattle.index.specs.Finding.{same_step, first, find_bytes, found_as}
 use Rattle.index.specs.Index.{choose, bucket_of, bucket_at, last}
 
@@ -47,10 +47,10 @@ last-in H L b (suc i) s e = go (λ r. last-in H L b i s r) (eqb (bucket_at H L i
 pub last-chain : (H : ℕ) (L : List Step) (b n : ℕ) → n ≤ length L → InChain H L b (last H L b n)
 last-chain H L b n h = record { low = omega (arith, last-low H L b n); among = last-in H L b n }
 
--- The lowest equal one of the first steps, with the answer r where there is none: one more than its number.
-unfoldable pub down : ℕ → List ℕ → List Step → ℕ → ℕ → ℕ
+-- The number of the lowest equal one of the first steps, with the answer r where there is none.
+unfoldable pub down : ℕ → List ℕ → List Step → ℕ → Found ℕ → Found ℕ
 down p x L zero r = r
-down p x L (suc i) r = down p x L i (choose (same_step p x (step_at L i)) (suc i) r)
+down p x L (suc i) r = down p x L i (pick (same_step p x (step_at L i)) (Some i) r)
 
 module _ (p : ℕ) (x : List ℕ) where
   -- Equal steps are in one bucket.
@@ -67,70 +67,70 @@ module _ (p : ℕ) (x : List ℕ) where
       go true h = absurd (e (same-bucket H L i h))
 
   -- Steps of other buckets are passed over.
-  pub down-skip : (H : ℕ) (L : List Step) (m r : ℕ) → down p x L m r ≡ down p x L (last H L (bucket_of H p x) m) r
+  pub down-skip : (H : ℕ) (L : List Step) (m : ℕ) (r : Found ℕ) → down p x L m r ≡ down p x L (last H L (bucket_of H p x) m) r
   unfolding last down
   down-skip H L zero r = refl
   down-skip H L (suc i) r = go (down-skip H L i r) (eqb (bucket_at H L i) (bucket_of H p x)) refl
     where
       go : down p x L i r ≡ down p x L (last H L (bucket_of H p x) i) r → (t : Bool) → eqb (bucket_at H L i) (bucket_of H p x) ≡ t
-          → down p x L i (choose (same_step p x (step_at L i)) (suc i) r) ≡ down p x L (choose t (suc i) (last H L (bucket_of H p x) i)) r
+          → down p x L i (pick (same_step p x (step_at L i)) (Some i) r) ≡ down p x L (choose t (suc i) (last H L (bucket_of H p x) i)) r
       go f true h = refl
       go f false h =
-          ap (λ (t : Bool). down p x L i (choose t (suc i) r)) (other-bucket H L i (eqb-false (bucket_at H L i) (bucket_of H p x) h))
+          ap (λ (t : Bool). down p x L i (pick t (Some i) r)) (other-bucket H L i (eqb-false (bucket_at H L i) (bucket_of H p x) h))
           ∙ f
 
   -- One turn of a walk down the chain of a bucket.
-  pub down_turn : (H : ℕ) (L : List Step) (s r r' : ℕ) → r' ≡ choose (same_step p x (step_at L s)) (suc s) r
+  pub down_turn : (H : ℕ) (L : List Step) (s : ℕ) (r r' : Found ℕ) → r' ≡ pick (same_step p x (step_at L s)) (Some s) r
       → down p x L (suc s) r ≡ down p x L (last H L (bucket_of H p x) s) r'
   unfolding down
   down_turn H L s r r' e = ap (down p x L s) (sym e) ∙ down-skip H L s r'
 
-  pub down-end : (L : List Step) (r : ℕ) → down p x L 0 r ≡ r
+  pub down-end : (L : List Step) (r : Found ℕ) → down p x L 0 r ≡ r
   unfolding down
   down-end L r = refl
 
   -- The whole walk finds the lowest.
-  coded : ℕ → Option ℕ → ℕ
-  coded i none = 0
-  coded i (some k) = suc (i + k)
+  coded : ℕ → Option ℕ → Found ℕ
+  coded i none = None
+  coded i (some k) = Some (i + k)
 
-  down-finds : (L : List Step) (m r : ℕ) → m ≤ length L → r ≡ coded m (find_bytes p x (drop m L)) → down p x L m r ≡ coded 0 (find_bytes p x L)
+  down-finds : (L : List Step) (m : ℕ) (r : Found ℕ) → m ≤ length L → r ≡ coded m (find_bytes p x (drop m L)) → down p x L m r ≡ coded 0 (find_bytes p x L)
   unfolding down find_bytes coded
   down-finds L zero r h e = e
-  down-finds L (suc i) r h e = down-finds L i (choose (same_step p x (step_at L i)) (suc i) r) (omega arith) (go (same_step p x (step_at L i)) refl)
+  down-finds L (suc i) r h e = down-finds L i (pick (same_step p x (step_at L i)) (Some i) r) (omega arith) (go (same_step p x (step_at L i)) refl)
     where
       step : (o : Option ℕ) → coded (suc i) o ≡ coded i (map (λ k. suc k) o)
       step none = refl
-      step (some k) = let q : suc (suc i + k) ≡ suc (i + suc k) = omega arith in q
+      step (some k) = let q : suc i + k ≡ i + suc k = omega arith in ap Some q
 
-      go : (t : Bool) → same_step p x (step_at L i) ≡ t → choose t (suc i) r ≡ coded i (find_bytes p x (drop i L))
+      go : (t : Bool) → same_step p x (step_at L i) ≡ t → pick t (Some i) r ≡ coded i (find_bytes p x (drop i L))
       go true q =
-          let z : suc i ≡ suc (i + 0) = omega arith in
-          z ∙ sym (ap (λ (M : List Step). coded i (find_bytes p x M)) (drop-cons L i _ h) ∙ ap (λ (t : Bool). coded i (first t (find_bytes p x (drop (suc i) L)))) q)
+          let z : i ≡ i + 0 = omega arith in
+          ap Some z ∙ sym (ap (λ (M : List Step). coded i (find_bytes p x M)) (drop-cons L i _ h) ∙ ap (λ (t : Bool). coded i (first t (find_bytes p x (drop (suc i) L)))) q)
       go false q =
           e ∙ step (find_bytes p x (drop (suc i) L))
           ∙ sym (ap (λ (M : List Step). coded i (find_bytes p x M)) (drop-cons L i _ h) ∙ ap (λ (t : Bool). coded i (first t (find_bytes p x (drop (suc i) L)))) q)
 
-  down-whole : (L : List Step) → down p x L (length L) 0 ≡ coded 0 (find_bytes p x L)
+  down-whole : (L : List Step) → down p x L (length L) None ≡ coded 0 (find_bytes p x L)
   unfolding coded find_bytes
-  down-whole L = down-finds L (length L) 0 (omega arith) (sym (ap (λ (M : List Step). coded (length L) (find_bytes p x M)) (drop-length L)))
+  down-whole L = down-finds L (length L) None (omega arith) (sym (ap (λ (M : List Step). coded (length L) (find_bytes p x M)) (drop-length L)))
 
   -- The answer, by what the walk found.
-  pub walk-absent : (L : List Step) (n : ℕ) → down p x L (length L) 0 ≡ 0 → found_as (find_bytes p x L) n ≡ Absent n
+  pub walk-absent : (L : List Step) (n : ℕ) → down p x L (length L) None ≡ None → found_as (find_bytes p x L) n ≡ Err n
   unfolding coded
   walk-absent L n e = go (find_bytes p x L) (sym (down-whole L) ∙ e)
     where
-      go : (o : Option ℕ) → coded 0 o ≡ 0 → found_as o n ≡ Absent n
+      go : (o : Option ℕ) → coded 0 o ≡ None → found_as o n ≡ Err n
       go none h = refl
-      go (some k) h = absurd (omega arith)
+      go (some k) h = absurd (let z : ◌≡◌ {A = ℕ} 0 1 = cc in omega arith)
 
-  pub walk-found : (L : List Step) (n i : ℕ) → down p x L (length L) 0 ≡ suc i → found_as (find_bytes p x L) n ≡ At i
+  pub walk-found : (L : List Step) (n i : ℕ) → down p x L (length L) None ≡ Some i → found_as (find_bytes p x L) n ≡ Ok i
   unfolding coded
   walk-found L n i e = go (find_bytes p x L) (sym (down-whole L) ∙ e)
     where
-      go : (o : Option ℕ) → coded 0 o ≡ suc i → found_as o n ≡ At i
-      go none h = absurd (omega arith)
-      go (some k) h = let q : k ≡ i = omega arith in ap At q
+      go : (o : Option ℕ) → coded 0 o ≡ Some i → found_as o n ≡ Ok i
+      go none h = absurd (let z : ◌≡◌ {A = ℕ} 0 1 = cc in omega arith)
+      go (some k) h = let q : 0 + k ≡ i = cc in let z : k ≡ i = omega arith in ap Ok z
 
 -- Steps behind change nothing.
 pub bucket-more : (H : ℕ) (L M : List Step) (i : ℕ) → i < length L → bucket_at H (L ++ M) i ≡ bucket_at H L i

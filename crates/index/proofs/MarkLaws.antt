@@ -18,7 +18,7 @@ use Rattle.calculus.proofs.Growing.{extends-refl}
 use Rattle.calculus.proofs.Repeating.{done-again}
 use Rattle.ledger.specs.Ledger.{steps_of}
 use Rattle.ledger.specs.Noting.{Noted}
-use Rattle.index.specs.declared.Found.TheVariants.{At}
+use Rattle.std.specs.Prelude.{Result, Ok, Err, IsErr}
 use Rattle.index.specs.Finding.{find_bytes, found_as}
 use Rattle.index.specs.Index.{last, bucket_at, heads_of, places_from, Finished, mark, IndexedTo, Indexed, marked, Knows}
 use Rattle.index.proofs.RoomLaws.{slot-low, same_shape}
@@ -82,8 +82,13 @@ finish-kept {l} {x} e i h f {x'} k =
     let n : length x' ≡ length x = ap length k ∙ length-set x (1 + heads_of x + i) (get_or x (1 + heads_of x + i) 0 + mark) in
     same_shape x e.led e.room n (subst (λ (z : List ℕ). IndexedTo (heads_of x) (places_from x) (steps_of l) z (length (steps_of l))) (sym k) (indexed-marked e.steps i h (slot-low e i h) (omega arith) f))
 
+-- Nothing is known where nothing was found.
+pub knows-none : (L : List Step) (o : List ℕ) (r : Result ℕ ℕ) → IsErr r → Knows L o r
+knows-none L o (Err n) h = tt
+knows-none L o (Ok i) h = absurd (let q : ◌≡◌ {A = ℕ} 0 1 = cc in omega arith)
+
 -- The lowest cover step with these operands is that of the judgement; where it is marked, its search is finished.
-pub knows-marked : {l x : List ℕ} → Indexed l x → (o : List ℕ) (i : ℕ) → At i ≡ found_as (find_bytes 6 o (steps_of l)) (length (steps_of l)) → mark ≤ get_or x (1 + heads_of x + i) 0 → Knows (steps_of l) o (At i)
+pub knows-marked : {l x : List ℕ} → Indexed l x → (o : List ℕ) (i : ℕ) → Ok i ≡ found_as (find_bytes 6 o (steps_of l)) (length (steps_of l)) → mark ≤ get_or x (1 + heads_of x + i) 0 → Knows (steps_of l) o (Ok i)
 knows-marked {l} {x} e o i h m G g a b room =
     let s : find_bytes 6 o (steps_of l) ≡ some i = found_some (find_bytes 6 o (steps_of l)) (length (steps_of l)) i h in
     let t : find (cover G g) (steps_of l) ≡ some i = sym (find-same (cover G g) a 0 (steps_of l) e.led.formed) ∙ ap (λ (y : List ℕ). find_bytes 6 y (steps_of l)) b ∙ s in

@@ -21,7 +21,7 @@ use Rattle.kinds.specs.Kinds.{number_of, predicate_of}
 use Rattle.kinds.proofs.KindLaws.{numbered}
 use Rattle.ledger.specs.Ledger.{steps_of, place_of, Points}
 use Rattle.ledger.proofs.PointLaws.{inside, points-operands}
-use Rattle.index.specs.declared.Found.TheVariants.{At, Absent}
+use Rattle.std.specs.Prelude.{Ok, Err}
 use Rattle.index.specs.Finding.{same_step, first, find_bytes, found_as}
 
 -- Whether a step has the predicate and the operands.
@@ -92,11 +92,11 @@ find-same j a k [] f = refl
 find-same j a k (s ∷ L) f = same_step-by j s a f.0.limits (same_judgement s.judgement j) _ _ (find-same j a (suc k) L f.1)
 
 -- What was found, as it is answered.
-pub found_some : (o : Option ℕ) (n i : ℕ) → At i ≡ found_as o n → o ≡ some i
+pub found_some : (o : Option ℕ) (n i : ℕ) → Ok i ≡ found_as o n → o ≡ some i
 found_some none n i e = absurd (let z : ◌≡◌ {A = ℕ} 0 1 = cc in omega arith)
 found_some (some k) n i e = let z : k ≡ i = cc in ap some z
 
-pub found_none : (o : Option ℕ) (n i : ℕ) → Absent i ≡ found_as o n → (o ≡ none) × (i ≡ n)
+pub found_none : (o : Option ℕ) (n i : ℕ) → Err i ≡ found_as o n → (o ≡ none) × (i ≡ n)
 found_none none n i e = (refl, cc)
 found_none (some k) n i e = absurd (let z : ◌≡◌ {A = ℕ} 0 1 = cc in omega arith)
 

@@ -1,5 +1,5 @@
 -- The lowest equal step of a ledger.
-use Rattle.std.specs.Prelude.{◌≡◌, Bool, true, false, ◌&&◌, List, [], ◌∷◌, ℕ, suc, eqb}
+use Rattle.std.specs.Prelude.{◌≡◌, Bool, true, false, ◌&&◌, List, [], ◌∷◌, ℕ, suc, eqb, Result, Ok, Err}
 use Rattle.std.proofs.Math.Option.{Option, none, some, map}
 use Rattle.formula.specs.Answers.{same_bytes}
 use Rattle.calculus.specs.Judgement.{Step}
@@ -8,8 +8,6 @@ use Rattle.calculus.specs.Rules.{step_at}
 use Rattle.calculus.specs.Record.{operand_bytes}
 use Rattle.kinds.specs.Kinds.{number_of}
 use Rattle.ledger.specs.Ledger.{steps_of}
-use Rattle.index.specs.declared.Found.{Found}
-use Rattle.index.specs.declared.Found.TheVariants.{At, Absent}
 
 -- Has the step this predicate and these operands?
 abbrev pub same_step : ℕ → List ℕ → Step → Bool
@@ -29,7 +27,7 @@ unfoldable pub find_bytes : ℕ → List ℕ → List Step → Option ℕ
 find_bytes p operands [] = none
 find_bytes p operands (s ∷ L) = first (same_step p operands s) (find_bytes p operands L)
 
--- A step as it is answered.
-abbrev pub found_as : Option ℕ → ℕ → Found
-found_as none n = Absent n
-found_as (some i) n = At i
+-- The number that was found, else how many steps there are.
+abbrev pub found_as : Option ℕ → ℕ → Result ℕ ℕ
+found_as none n = Err n
+found_as (some i) n = Ok i

@@ -1,5 +1,5 @@
 -- A chained index of a ledger's steps in a list of numbers: how many steps, a head for each bucket, a link for each step, and the places of every 16th.
-use Rattle.std.specs.Prelude.{◌≡◌, Bool, true, false, List, ◌++◌, ℕ, zero, suc, ◌+◌, ◌*◌, ◌-◌, ◌/◌, ◌%◌, ◌≤◌, ◌<◌, eqb, leb, length, get_or, set, take, drop}
+use Rattle.std.specs.Prelude.{◌≡◌, Bool, true, false, List, ◌++◌, ℕ, zero, suc, ◌+◌, ◌*◌, ◌-◌, ◌/◌, ◌%◌, ◌≤◌, ◌<◌, eqb, leb, length, get_or, set, take, drop, Result, Ok, Err}
 use Rattle.formula.specs.Formula.{Face}
 use Rattle.calculus.specs.Judgement.{Step, cover}
 use Rattle.calculus.specs.Table.{p_cover, predicate}
@@ -11,8 +11,6 @@ use Rattle.kinds.specs.Kinds.{number_of}
 use Rattle.records.specs.Places.{little_at}
 use Rattle.ledger.specs.Ledger.{steps_of, Led}
 use Rattle.ledger.specs.Noting.{Noted, Notes}
-use Rattle.index.specs.declared.Found.{Found}
-use Rattle.index.specs.declared.Found.TheVariants.{At, Absent}
 
 -- One of two numbers.
 abbrev pub choose : Bool → ℕ → ℕ → ℕ
@@ -125,6 +123,6 @@ unfoldable pub marked : ℕ → List ℕ → ℕ → List ℕ
 marked H x i = set x (1 + H + i) (get_or x (1 + H + i) 0 + mark)
 
 -- What is known of the search for a cover judgement with these operands: that it is finished and answers i, or nothing.
-abbrev pub Knows : List Step → List ℕ → Found → Type 0
-Knows L o (At i) = (G : List Face) (g : Face) → all_allowed (fields p_cover) (operands (cover G g)) ≡ true → operand_bytes (cover G g) ≡ o → (room : List Step → Bool) → run room (emit_cover G g) L ≡ done i L
-Knows L o (Absent n) = Unit {0}
+abbrev pub Knows : List Step → List ℕ → Result ℕ ℕ → Type 0
+Knows L o (Ok i) = (G : List Face) (g : Face) → all_allowed (fields p_cover) (operands (cover G g)) ≡ true → operand_bytes (cover G g) ≡ o → (room : List Step → Bool) → run room (emit_cover G g) L ≡ done i L
+Knows L o (Err n) = Unit {0}

@@ -2,20 +2,11 @@
 ghost use Rattle.std.specs.Prelude.{◌≡◌, ◌+◌, ◌-◌, ◌/◌, ◌*◌, ◌%◌, ◌≤◌, ◌<◌, leb, length, get_or};
 ghost use Rattle.index.specs.Index.{groups_of, heads_of, places_from, mark, Placed, Entered, Enters, marked};
 
-fn wide(n: u32) -> usize
-    ensures { (result ≡ n) × (result < 4294967296) }
-{
-    n as usize
-}
-
 // How many groups an index of n numbers has.
 fn groups(n: usize) -> usize
     ensures { result ≡ (n - 2) / 21 }
 {
-    if n < 2 {
-        return 0;
-    }
-    (n - 2) / 21
+    n.saturating_sub(2) / 21
 }
 
 // How many buckets an index of n numbers has.
@@ -37,7 +28,7 @@ pub fn slot(x: &[u32], i: usize) -> usize
     requires { i < length x.now }
     ensures { (result ≡ get_or x.now i 0) × (result < 4294967296) }
 {
-    wide(x[i])
+    x[i] as usize
 }
 
 // One more than the number of the step before step i in its bucket, or 0.
@@ -101,5 +92,5 @@ pub fn set_mark(x: &mut [u32], i: usize)
     ensures { x.new ≡ marked (heads_of x.old) x.old i }
 {
     let k = 1 + heads(x.len()) + i;
-    x[k] = x[k] + 2147483648;
+    x[k] += 2147483648;
 }

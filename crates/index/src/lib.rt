@@ -13,10 +13,3 @@ pub use chain::find_in;
 pub use enter::{enter_step, heads};
 pub use marks::{finish, finished};
 pub use pass::build;
-
-// The lowest equal step, or how many steps there are.
-#[derive(Clone, Copy)]
-pub enum Found {
-    At(usize),
-    Absent(usize),
-}

@@ -1,19 +1,16 @@
 -- The table of the code agrees with the table of the calculus: one computed test over the whole table.
-use Prim.Native.Nat.{ℕ, zero, suc, ◌/◌, ◌%◌, ◌≤◌, ◌<◌}
-use native.Mathlib.Omega.{arith}
-use mathlib.Core.Path.{◌≡◌, refl, sym, ap, ap₂, ◌∙◌}
-use mathlib.Core.Bool.{Bool, true, false, ◌&&◌, and-eq-true_iff}
-use mathlib.Core.List.{List, [], ◌∷◌, map}
+use Rattle.std.proofs.Common.{◌≡◌, ◌≤◌, ◌<◌, arith, refl, sym, subst, ap, ◌∙◌, ℕ, zero, suc, Bool, true, ◌&&◌, List, [], ◌∷◌, length, map, get_or, Option, Some, None, MatchOption, Bor}
+use mathlib.Core.Bool.{and-eq-true_iff}
 use lib.Dec.{ltb}
+use Rattle.std.specs.Slice.{IsItemAt}
 use borrow.Author.Tests.{ltb-true}
-use lib.ListN.{length, get_or, get_or-eq_default, get_or-map}
+use lib.ListN.{get_or-eq_default, get_or-map as get_or-maps}
+use Rattle.std.proofs.lemmas.List.{length-map}
+use Rattle.std.proofs.lemmas.List.{get_or-map}
 use Rattle.calculus.specs.Table.{Pred, p_lt, p_le, p_interval, p_face, p_member, p_take, p_cover, p_entails, p_boundary, p_local, p_fforall, p_ishift, p_isubst, p_fshift, p_fsubst, Entry, entry, unlisted, table, entry_of}
-use Rattle.formula.specs.declared.Sort.TheVariants.{Faces, Intervals}
-use Rattle.calculus.specs.Record.{fields}
-use Rattle.calculus.specs.Record
-use Rattle.kinds.specs.Kinds.{number_of, predicate_of, entry_as, name_start, count_in, number_in, row_of, field_as, digit_of, field_numbered, packed, shape_in, shape_of}
-use Rattle.kinds.specs.declared.Entry.TheVariants.{Listed, Unlisted}
-use Rattle.kinds.specs.declared.Field.TheVariants.{Number, Index, Context, End, Face, Interval, Nothing}
+use Rattle.kinds.specs.declared.Entry.{Entry as RowRead}
+use Rattle.kinds.specs.declared.table.Row.{Row}
+use Rattle.kinds.specs.Kinds.{number_of, predicate_of, entry_as, name_in, row_as, RowIs, RowsAre}
 
 -- The numbers of the predicates.
 pub numbered : (p : Pred) → (predicate_of (number_of p) ≡ p) × (number_of p < 15)
@@ -33,35 +30,10 @@ numbered p_isubst = (refl, omega arith)
 numbered p_fshift = (refl, omega arith)
 numbered p_fsubst = (refl, omega arith)
 
-abbrev is_listed : Entry → Bool
-is_listed (entry name n p) = true
-is_listed unlisted = false
-
-unfoldable all_listed : List Entry → Bool
-all_listed [] = true
-all_listed (e ∷ es) = is_listed e && all_listed es
-
-listed_at : (l : List Entry) (k : ℕ) → all_listed l ≡ true → k < length l → is_listed (get_or l k unlisted) ≡ true
-unfolding all_listed
-listed_at [] k h b = absurd (omega arith)
-listed_at (e ∷ l) zero h b = ((and-eq-true_iff (is_listed e) (all_listed l)).0 h).0
-listed_at (e ∷ l) (suc k) h b = listed_at l k ((and-eq-true_iff (is_listed e) (all_listed l)).0 h).1 (omega arith)
-
-listed-as : (e : Entry) → is_listed e ≡ true → Listed (count_in e) (number_in e) ≡ entry_as e
-listed-as (entry name n p) h = refl
-listed-as unlisted h = absurd (let z : ◌≡◌ {A = ℕ} 0 1 = cc in omega arith)
-
-table-listed : all_listed table ≡ true
-unfolding all_listed table
-table-listed = refl
-
-table-length : length table ≡ 75
-unfolding table
-table-length = refl
-
-pub entry-above : (k : ℕ) → 75 < k → Unlisted ≡ entry_as (entry_of k)
-entry-above zero h = absurd (omega arith)
-entry-above (suc k) h = ap entry_as (sym (get_or-eq_default table unlisted {n = k} (omega (arith, table-length))))
+-- The reference count in an entry.
+abbrev count_in : Entry → ℕ
+count_in (entry name n p) = n
+count_in unlisted = 0
 
 -- Small columns.
 unfoldable pub all_below : ℕ → List ℕ → Bool
@@ -74,88 +46,48 @@ below_at n [] k p h = p
 below_at n (b ∷ l) zero p h = ltb-true b n ((and-eq-true_iff (ltb b n) (all_below n l)).0 h).0
 below_at n (b ∷ l) (suc k) p h = below_at n l k p ((and-eq-true_iff (ltb b n) (all_below n l)).0 h).1
 
+table-length : length table ≡ 75
+unfolding table
+table-length = refl
+
 -- No kind has more than three references.
-few-counts : all_below 4 (map count_in table) ≡ true
+few-at : (k : ℕ) → count_in (entry_of k) < 4
 unfolding all_below table
-few-counts = refl
-
--- A number's count and predicate are small, so that its row tells them.
-pub few-at : (k : ℕ) → count_in (entry_of k) < 4
 few-at zero = omega arith
-few-at (suc k) = omega (arith, get_or-map count_in table k unlisted, below_at 4 (map count_in table) k (omega arith) few-counts)
+few-at (suc k) = go (below_at 4 (map count_in table) k (omega arith) refl)
+  where
+    go : get_or (map count_in table) k 0 < 4 → count_in (get_or table k unlisted) < 4
+    go h = omega (arith, h, get_or-maps count_in table k unlisted)
 
-low-number : (e : Entry) → number_in e < 15
-low-number (entry name n p) = (numbered p).1
-low-number unlisted = omega arith
+few-in : (e : Entry) (r : RowRead) → Some r ≡ entry_as e → r.references ≡ count_in e
+few-in (entry name m q) r h = cc
+few-in unlisted r h = cc
 
--- The row of a kind answers its entry.
-pub entry-law : (k r : ℕ) → 1 ≤ k → k ≤ 75 → r ≡ row_of k → Listed (r / 100 % 10) (r % 100) ≡ entry_as (entry_of k)
-unfolding row_of
-entry-law zero r h b e = absurd (omega arith)
-entry-law (suc k) r h b e =
-    let few = few-at (suc k) in
-    let low = low-number (entry_of (suc k)) in
-    let p : r / 100 % 10 ≡ count_in (entry_of (suc k)) = omega arith in
-    let q : r % 100 ≡ number_in (entry_of (suc k)) = omega arith in
-    ap₂ Listed p q ∙ listed-as (get_or table k unlisted) (listed_at table k table-listed (omega (arith, table-length)))
-
-pub start-law : (k r : ℕ) → r ≡ row_of k → r / 1000 ≡ name_start k
-unfolding row_of
-start-law k r e = let few = few-at k in let low = low-number (entry_of k) in omega arith
-
-few-in : (e : Entry) (n p : ℕ) → Listed n p ≡ entry_as e → n ≡ count_in e
-few-in (entry name m q) n p h = cc
-few-in unlisted n p h = absurd (let z : ◌≡◌ {A = ℕ} 0 1 = cc in omega arith)
-
-pub few-references : (k n p : ℕ) → Listed n p ≡ entry_as (entry_of k) → n ≤ 3
-few-references zero n p h = omega (arith, few-in unlisted n p h)
-few-references (suc k) n p h = omega (arith, few-in (get_or table k unlisted) n p h, few-at (suc k))
+pub few-references : (k : ℕ) (r : RowRead) → Some r ≡ entry_as (entry_of k) → r.references ≤ 3
+few-references k r h = omega (arith, few-in (entry_of k) r h, few-at k)
 
 -- What is known of an entry that was answered.
-pub listed_same : {n m p q : ℕ} → Listed n p ≡ Listed m q → (n ≡ m) × (p ≡ q)
+pub listed_same : {r s : RowRead} → Some r ≡ Some s → (r.references ≡ s.references) × (r.predicate ≡ s.predicate)
 listed_same e = (cc, cc)
 
-pub not-unlisted : {A : Type 0} {n p : ℕ} → Unlisted ≡ Listed n p → A
+pub not-unlisted : {A : Type 0} {r : RowRead} → ◌≡◌ {A = Option RowRead} None (Some r) → A
 not-unlisted e = absurd (let z : ◌≡◌ {A = ℕ} 0 1 = cc in omega arith)
 
--- Shapes ------------------------------------------------------------------------------------------
+-- What was read in the rows is the row of its kind.
+module _ (R : List Row) (a : RowsAre table R) where
+  rows-length : length R ≡ 75
+  rows-length = sym (length-map R row_as) ∙ ap length a.1 ∙ length-map table entry_as ∙ table-length
 
--- A number above the kinds has none.
-pub shape-above : (k : ℕ) → 76 ≤ k → 0 ≡ shape_of k
-unfolding shape_of
-shape-above zero h = absurd (omega arith)
-shape-above (suc k) h = ap shape_in (sym (get_or-eq_default table unlisted {n = k} (omega (arith, table-length))))
+  row-at : (k : ℕ) → k < 75 → (d : Row) → RowIs (get_or table k unlisted) (get_or R k d)
+  row-at k b d = (
+    sym (get_or-map (λ (r : Row). r.0.now) R k d [] (omega (arith, rows-length))) ∙ ap (λ (l : List (List ℕ)). get_or l k []) a.0 ∙ get_or-map name_in table k unlisted [] (omega (arith, table-length)),
+    sym (get_or-map row_as R k d None (omega (arith, rows-length))) ∙ ap (λ (l : List (Option RowRead)). get_or l k None) a.1 ∙ get_or-map entry_as table k unlisted None (omega (arith, table-length)),
+  )
 
--- A field's number is a digit, and tells the field.
-pub digit : (c : Record.Field) → (1 ≤ digit_of c) × (digit_of c < 8) × (field_numbered (digit_of c) ≡ field_as c)
-digit Record.number = (omega arith, omega arith, refl)
-digit Record.index = (omega arith, omega arith, refl)
-digit Record.context = (omega arith, omega arith, refl)
-digit Record.end = (omega arith, omega arith, refl)
-digit (Record.formula Faces) = (omega arith, omega arith, refl)
-digit (Record.formula Intervals) = (omega arith, omega arith, refl)
-
-pub no_digit : (n : ℕ) → 7 ≤ n → Nothing ≡ field_numbered n
-no_digit n h = sym (get_or-eq_default (Nothing ∷ Number ∷ Index ∷ Context ∷ End ∷ Face ∷ Interval ∷ []) Nothing {n = n} h)
-
--- Every predicate has a field.
-packed-some : (cs : List Record.Field) (c : Record.Field) (p : Pred) → fields p ≡ c ∷ cs → 1 ≤ packed (fields p)
-unfolding packed
-packed-some cs c p e = rw e (omega (arith, (digit c).0))
-
-pub packed-fields : (p : Pred) → 1 ≤ packed (fields p)
-packed-fields p_lt = packed-some _ _ p_lt refl
-packed-fields p_le = packed-some _ _ p_le refl
-packed-fields p_interval = packed-some _ _ p_interval refl
-packed-fields p_face = packed-some _ _ p_face refl
-packed-fields p_member = packed-some _ _ p_member refl
-packed-fields p_take = packed-some _ _ p_take refl
-packed-fields p_cover = packed-some _ _ p_cover refl
-packed-fields p_entails = packed-some _ _ p_entails refl
-packed-fields p_boundary = packed-some _ _ p_boundary refl
-packed-fields p_local = packed-some _ _ p_local refl
-packed-fields p_fforall = packed-some _ _ p_fforall refl
-packed-fields p_ishift = packed-some _ _ p_ishift refl
-packed-fields p_isubst = packed-some _ _ p_isubst refl
-packed-fields p_fshift = packed-some _ _ p_fshift refl
-packed-fields p_fsubst = packed-some _ _ p_fsubst refl
+  pub row-law : (k i : ℕ) → suc i ≡ k → (r : Option (Bor Row)) → IsItemAt R i r → MatchOption r (entry_of k ≡ unlisted) (λ r. RowIs (entry_of k) r.now)
+  row-law zero i h r b = absurd (omega arith)
+  row-law (suc k) i h None b = get_or-eq_default table unlisted {n = k} (omega (arith, rows-length, table-length, b.3))
+  row-law (suc k) i h (Some x) b =
+      let j : i ≡ k = omega arith in
+      let y : get_or R k x.now ≡ x.now = sym (b.1 ∙ ap (λ (n : ℕ). get_or R n x.now) j) in
+      subst (RowIs (get_or table k unlisted)) y (row-at k (omega (arith, rows-length, b.3.0)) x.now)

@@ -3,17 +3,17 @@
 
 mod table;
 
-pub use table::{entry_of, field_numbered, field_of, is_name, name_len, put_name, shape_of};
+pub use table::{entry_of, field_of, fields_of, is_name, name_len, name_of, put_name};
 
-// What the table says of a number: reference count and predicate of a kind, or that it is no kind. Predicates count from 0 in document 01's order.
-#[derive(Clone, Copy)]
-pub enum Entry {
-    Listed(usize, usize),
-    Unlisted,
+// What the table says of a kind: how many references a step has, and the number of its predicate. Predicates count from 0 in document 01's order.
+#[derive(Clone, Copy, PartialEq, Eq)]
+pub struct Entry {
+    pub references: usize,
+    pub predicate: usize,
 }
 
-// A field of a judgement, or none behind the last.
-#[derive(Clone, Copy)]
+// A field of a judgement.
+#[derive(Clone, Copy, PartialEq, Eq)]
 pub enum Field {
     Number,
     Index,
@@ -21,5 +21,4 @@ pub enum Field {
     End,
     Face,
     Interval,
-    Nothing,
 }

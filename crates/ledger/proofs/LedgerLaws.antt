@@ -14,7 +14,7 @@ use Rattle.calculus.proofs.Tables.{listed-range}
 use Rattle.calculus.proofs.Records.{record-length, steps-append, read-ledger}
 use Rattle.kinds.specs.Kinds.{number_of, entry_as}
 use Rattle.records.specs.Places.{little_at}
-use Rattle.kinds.specs.declared.Entry.TheVariants.{Listed}
+use Rattle.std.specs.Prelude.{Some}
 use Rattle.records.proofs.NumberLaws.{little-drop, little-front}
 use Rattle.ledger.specs.Ledger.{steps_in, steps_of, Led, place_of}
 
@@ -168,5 +168,5 @@ place_inside {l} {L} h i b = (omega (arith, place-next L i b, body-length (step_
 
 -- What the table answers for its kind.
 pub place-entry : {l : List ℕ} {L : List Step} → Holds l L → (i : ℕ) → i < length L
-    → entry_as (entry_of (step_at L i).kind) ≡ Listed (length (step_at L i).references) (number_of (predicate (judgement_at L i)))
+    → entry_as (entry_of (step_at L i).kind) ≡ Some (record { references = length (step_at L i).references; predicate = number_of (predicate (judgement_at L i)) })
 place-entry {l} {L} h i b = ap entry_as (formed-at-0 h i b).listed.listed

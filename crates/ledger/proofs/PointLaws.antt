@@ -10,7 +10,7 @@ use Rattle.calculus.specs.Rules.{step_at, judgement_at}
 use Rattle.calculus.specs.Record.{operand_bytes, steps_bytes, size, max_ledger}
 use Rattle.kinds.specs.Kinds.{number_of, entry_as}
 use Rattle.records.specs.Places.{little_at}
-use Rattle.kinds.specs.declared.Entry.TheVariants.{Listed}
+use Rattle.std.specs.Prelude.{Some}
 use Rattle.ledger.specs.Ledger.{steps_of, Led, place_of, Points}
 use Rattle.ledger.proofs.LedgerLaws.{place-next, place-last, place_end, many, place-length, place-kind, place-reference, place-operands, place_inside, place-entry}
 
@@ -36,7 +36,7 @@ module _ {l : List ℕ} {step at : ℕ} (p : Points l step at) where
   pub points-reference : (j : ℕ) → j < length (step_at (steps_of l) step).references → little_at 4 l (at + 6 + 4 * j) ≡ get_or (step_at (steps_of l) step).references j 0
   points-reference j q = ap (λ (a : ℕ). little_at 4 l (a + 6 + 4 * j)) p.place ∙ place-reference p.led step p.inside j q
 
-  pub points-entry : entry_as (entry_of (step_at (steps_of l) step).kind) ≡ Listed (length (step_at (steps_of l) step).references) (number_of (predicate (judgement_at (steps_of l) step)))
+  pub points-entry : entry_as (entry_of (step_at (steps_of l) step).kind) ≡ Some (record { references = length (step_at (steps_of l) step).references; predicate = number_of (predicate (judgement_at (steps_of l) step)) })
   points-entry = place-entry p.led step p.inside
 
   pub points-operands : (from to : ℕ) → from ≡ at + 6 + 4 * length (step_at (steps_of l) step).references → to ≡ place_of (steps_of l) (suc step)

@@ -13,14 +13,8 @@ ghost use Rattle.kinds.specs.Kinds.{number_of};
 ghost use Rattle.ledger.specs.Ledger.{steps_of, place_of, Points};
 
 pub use check::well_formed;
+use kinds::Entry;
 pub use steps::{seek, used};
-
-// What bytes are found to be: a ledger with so many steps, or none (refusal 1).
-#[derive(Clone, Copy)]
-pub enum Checked {
-    Steps(usize),
-    Ill,
-}
 
 // A step of a ledger: its number, and where its record begins.
 #[derive(Clone, Copy)]
@@ -68,15 +62,20 @@ impl Cursor {
         records::get4(l, at + 6 + 4 * j)
     }
 
+    // What the table of kinds says of its kind.
+    pub fn entry(self, l: &[u8]) -> Entry
+        requires { Points l.now self.step self.at }
+        ensures { (result.references ≡ length (step_at (steps_of l.now) self.step).references) × (result.predicate ≡ number_of (predicate (judgement_at (steps_of l.now) self.step))) }
+    {
+        kinds::entry_of(self.kind(l)).unwrap()
+    }
+
     // The number of its predicate.
     pub fn predicate(self, l: &[u8]) -> usize
         requires { Points l.now self.step self.at }
         ensures { result ≡ number_of (predicate (judgement_at (steps_of l.now) self.step)) }
     {
-        match kinds::entry_of(self.kind(l)) {
-            kinds::Entry::Listed(_, p) => p,
-            kinds::Entry::Unlisted => 0,
-        }
+        self.entry(l).predicate
     }
 
     // Where its operands begin.
@@ -85,10 +84,7 @@ impl Cursor {
         ensures { result ≡ self.at + 6 + 4 * length (step_at (steps_of l.now) self.step).references }
     {
         let at = self.at;
-        match kinds::entry_of(self.kind(l)) {
-            kinds::Entry::Listed(n, _) => at + 6 + 4 * n,
-            kinds::Entry::Unlisted => at,
-        }
+        at + 6 + 4 * self.entry(l).references
     }
 
     // The bytes of its judgement, a part of the ledger.

@@ -5,12 +5,6 @@ ghost use Rattle.ledger.specs.Noting.{Noted, Notes};
 
 use crate::{Cursor, steps};
 
-fn wide(n: u32) -> usize
-    ensures { result ≡ n }
-{
-    n as usize
-}
-
 // Keeps the place of the step if it is a 16th one.
 pub fn note(places: &mut [u32], step: usize, at: usize)
     requires { (step < 16 * length places.old) × (at < 4294967296) }
@@ -31,7 +25,7 @@ pub fn find_step(l: &[u8], places: &[u32], i: usize) -> Cursor
     let k = i / 16;
     let c = Cursor {
         step: 16 * k,
-        at: wide(places[k]),
+        at: places[k] as usize,
     };
     steps::walk_to(l, c, i)
 }

@@ -10,15 +10,14 @@ pub(crate) fn walk_to(l: &[u8], c: Cursor, i: usize) -> Cursor
     requires { Led l.now × (i < length (steps_of l.now)) × (c.step ≤ i) × (c.at ≡ place_of (steps_of l.now) c.step) }
     ensures { (result.step ≡ i) × (result.at ≡ place_of (steps_of l.now) i) }
 {
-    let mut step = c.step;
+    let from = c.step;
     let mut at = c.at;
-    while step < i {
+    for step in from..i {
         let c = Cursor { step, at };
         let n = c.next(l);
-        step = n.step;
         at = n.at;
     }
-    Cursor { step, at }
+    Cursor { step: i, at }
 }
 
 // Step i.

@@ -1,4 +1,5 @@
 -- The passes over a formula's tokens: what has been summed or written, with what is still to come, is the whole.
+use Rattle.std.specs.Prelude.{Option, Some, None}
 use Prim.Native.Nat.{ℕ, suc, pred, ◌+◌, ◌-◌, ◌*◌, ◌≤◌, ◌<◌, max, compare, Ordering}
 use native.Mathlib.Omega.{arith}
 use native.Mathlib.Nat.{zero-add}
@@ -22,47 +23,45 @@ use Rattle.formula.specs.declared.Advance.{Advance}
 use Rattle.formula.specs.declared.Advance.TheVariants.{Leaf, Lit, One, Two, Stuck}
 use Rattle.passes.specs.declared.Rule.{Rule}
 use Rattle.passes.specs.declared.Rule.TheVariants.{Up, Down, Ends}
-use Rattle.passes.specs.declared.Moved.{Moved}
-use Rattle.passes.specs.declared.Moved.TheVariants.{To, Hit}
 use Rattle.formula.proofs.Compare.{compare-lt, compare-eq, compare-gt, Compares, stands}
 use Rattle.passes.proofs.TokenLaws.{row_tokens, Rest, Stepped, stepped-on, rest-start, row-start, rest_end, rest-step}
 
 -- where a dimension goes, by the tests of the code
-pub up-below : (k n : ℕ) → n < k → moved_to (Up k) n ≡ To n
+pub up-below : (k n : ℕ) → n < k → moved_to (Up k) n ≡ Some n
 up-below k n h = rw compare-lt
 
-pub up_from : (k n : ℕ) → k ≤ n → moved_to (Up k) n ≡ To (n + 1)
+pub up_from : (k n : ℕ) → k ≤ n → moved_to (Up k) n ≡ Some (n + 1)
 up_from k n h = go (compare n k) (stands n k)
   where
-    go : (o : Ordering) → Compares o n k → To (beside o n (suc n) (suc n)) ≡ To (n + 1)
+    go : (o : Ordering) → Compares o n k → Some (beside o n (suc n) (suc n)) ≡ Some (n + 1)
     go Ordering.lt g = absurd (omega arith)
-    go Ordering.eq g = ap To (sym (add-one n))
-    go Ordering.gt g = ap To (sym (add-one n))
+    go Ordering.eq g = ap Some (sym (add-one n))
+    go Ordering.gt g = ap Some (sym (add-one n))
 
-pub down-below : (k n : ℕ) → n < k → moved_to (Down k) n ≡ To n
+pub down-below : (k n : ℕ) → n < k → moved_to (Down k) n ≡ Some n
 down-below k n h = rw compare-lt
 
-pub down-hit : (k n : ℕ) → n ≡ k → moved_to (Down k) n ≡ Hit
+pub down-hit : (k n : ℕ) → n ≡ k → moved_to (Down k) n ≡ None
 down-hit k n e = rw (e, compare-eq k)
 
-pub down-above : (k n : ℕ) → k ≤ n → (n ≡ k → ⊥) → moved_to (Down k) n ≡ To (n - 1)
-down-above k n h g = rw (compare-gt n k (omega arith)) (ap To (omega arith))
+pub down-above : (k n : ℕ) → k ≤ n → (n ≡ k → ⊥) → moved_to (Down k) n ≡ Some (n - 1)
+down-above k n h g = rw (compare-gt n k (omega arith)) (ap Some (omega arith))
 
 -- no dimension goes further up than by one
-abbrev pub Near : ℕ → Moved → Type 0
-Near n (To m) = m ≤ n + 1
-Near n Hit = Unit {0}
+abbrev pub Near : ℕ → Option ℕ → Type 0
+Near n (Some m) = m ≤ n + 1
+Near n None = Unit {0}
 
 pub near : (rule : Rule) (n : ℕ) → Near n (moved_to rule n)
 near (Up k) n = go (compare n k)
   where
-    go : (o : Ordering) → Near n (To (beside o n (suc n) (suc n)))
+    go : (o : Ordering) → Near n (Some (beside o n (suc n) (suc n)))
     go Ordering.lt = omega arith
     go Ordering.eq = omega arith
     go Ordering.gt = omega arith
 near (Down k) n = go (compare n k)
   where
-    go : (o : Ordering) → Near n (beside o (To n) Hit (To (pred n)))
+    go : (o : Ordering) → Near n (beside o (Some n) None (Some (pred n)))
     go Ordering.lt = omega arith
     go Ordering.eq = tt
     go Ordering.gt = omega arith
@@ -78,9 +77,9 @@ sum-zero z = size-eq (omega arith) (omega arith) (omega arith)
 pub sum-assoc : (x y z : Size) → (x ⊕ y) ⊕ z ≡ x ⊕ y ⊕ z
 sum-assoc x y z = size-eq (omega arith) (omega arith) (omega arith)
 
-small-moved : (m : Moved) (hit : Size) → Small hit → Small (moved_weight m hit)
-small-moved (To n) hit h = record { len = omega arith; nodes = omega arith }
-small-moved Hit hit h = h
+small-moved : (m : Option ℕ) (hit : Size) → Small hit → Small (moved_weight m hit)
+small-moved (Some n) hit h = record { len = omega arith; nodes = omega arith }
+small-moved None hit h = h
 
 small_plain : (rule : Rule) (k : Kind) → Small (plain_weight rule k)
 small_plain (Up n) k = record { len = omega arith; nodes = omega arith }
@@ -223,10 +222,10 @@ pub wrote_none : (d : List ℕ) (o : ℕ) → Wrote d o [] o d
 wrote_none d o = record { next = omega arith; stored = refl }
 
 -- the formula that replaces a literal, by its side
-pub hit-one : (b : ℕ) (u v : List ℕ) → b ≡ 3 → moved_bytes b Hit u v ≡ v
+pub hit-one : (b : ℕ) (u v : List ℕ) → b ≡ 3 → moved_bytes b None u v ≡ v
 hit-one b u v e = rw (eq-eqb b 3 e)
 
-pub hit-zero : (b : ℕ) (u v : List ℕ) → (b ≡ 3 → ⊥) → moved_bytes b Hit u v ≡ u
+pub hit-zero : (b : ℕ) (u v : List ℕ) → (b ≡ 3 → ⊥) → moved_bytes b None u v ≡ u
 hit-zero b u v e = rw (ne_eqb b 3 e)
 
 -- The pass that moves and replaces literals, up to a place of the operand and o of the result.

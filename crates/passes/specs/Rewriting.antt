@@ -1,6 +1,6 @@
 -- Passes over a formula that is known to be one: its nodes as tokens, and what each becomes.
 use Prim.Native.Nat.{ℕ, pred, ◌+◌, ◌-◌, ◌≤◌, ◌<◌, max, compare}
-use Rattle.std.specs.Prelude.{◌≡◌, List, [], ◌∷◌, ◌++◌, eqb, length}
+use Rattle.std.specs.Prelude.{◌≡◌, List, [], ◌∷◌, ◌++◌, eqb, length, Option, Some, None}
 use Rattle.std.proofs.lemmas.List.Edits.{sets}
 use Rattle.formula.specs.Formula.{End, lo, hi, other, end_of, Face, ff, ft, at, fand, for, Interval, i0, i1, dim, neg, meet, join, beside, raised}
 use Rattle.formula.specs.Bytes.{Tree, dim_width, dim_bytes, encode_face, encode}
@@ -12,8 +12,6 @@ use Rattle.formula.specs.declared.Kind.{Kind}
 use Rattle.formula.specs.declared.Kind.TheVariants.{Nullary, Literal, Unary, Binary, Unknown}
 use Rattle.passes.specs.declared.Rule.{Rule}
 use Rattle.passes.specs.declared.Rule.TheVariants.{Up, Down, Ends}
-use Rattle.passes.specs.declared.Moved.{Moved}
-use Rattle.passes.specs.declared.Moved.TheVariants.{To, Hit}
 
 -- a list that is a formula within the limits: its bytes are at most twice its nodes
 pub record Whole (s : Sort) (l : List ℕ) : Type 0 where
@@ -49,10 +47,10 @@ abbrev pub tokens_of : Sort → List ℕ → List Token
 tokens_of s l = tokens s (tree_of s l)
 
 -- where a dimension goes: to another, or it is the one that is replaced
-abbrev pub moved_to : Rule → ℕ → Moved
-moved_to (Up k) n = To (raised k n)
-moved_to (Down k) n = beside (compare n k) (To n) Hit (To (pred n))
-moved_to Ends n = To n
+abbrev pub moved_to : Rule → ℕ → Option ℕ
+moved_to (Up k) n = Some (raised k n)
+moved_to (Down k) n = beside (compare n k) (Some n) None (Some (pred n))
+moved_to Ends n = Some n
 
 -- sums of sizes
 infixr 60 ◌⊕◌
@@ -79,9 +77,9 @@ plain_weight Ends Unary = zero_size
 plain_weight Ends Binary = plain_size
 plain_weight Ends Unknown = plain_size
 
-abbrev pub moved_weight : Moved → Size → Size
-moved_weight (To m) hit = record { len = 1 + dim_width; nodes = 1; bound = m + 1 }
-moved_weight Hit hit = hit
+abbrev pub moved_weight : Option ℕ → Size → Size
+moved_weight (Some m) hit = record { len = 1 + dim_width; nodes = 1; bound = m + 1 }
+moved_weight None hit = hit
 
 abbrev pub weight_of : Sort → Rule → Size → Token → Size
 weight_of s rule hit (plain b) = plain_weight rule (kind_of s b)
@@ -97,18 +95,18 @@ unfoldable pub spell : (Token → List ℕ) → List Token → List ℕ
 spell f [] = []
 spell f (t ∷ ts) = f t ++ spell f ts
 
-abbrev pub moved_bytes : ℕ → Moved → List ℕ → List ℕ → List ℕ
-moved_bytes b (To m) zero-side one_side = b ∷ dim_bytes m
-moved_bytes b Hit zero-side one_side = pick (eqb b 3) one_side zero-side
+abbrev pub moved_bytes : ℕ → Option ℕ → List ℕ → List ℕ → List ℕ
+moved_bytes b (Some m) zero-side one_side = b ∷ dim_bytes m
+moved_bytes b None zero-side one_side = pick (eqb b 3) one_side zero-side
 
 abbrev pub image_of : Rule → List ℕ → List ℕ → Token → List ℕ
 image_of rule zero-side one_side (plain b) = b ∷ []
 image_of rule zero-side one_side (literal b n) = moved_bytes b (moved_to rule n) zero-side one_side
 
 -- every dimension goes to one that its field can hold
-abbrev pub Fielded : Moved → Type 0
-Fielded (To m) = m < dim_space
-Fielded Hit = Unit {0}
+abbrev pub Fielded : Option ℕ → Type 0
+Fielded (Some m) = m < dim_space
+Fielded None = Unit {0}
 
 abbrev pub FieldedAt : Rule → Token → Type 0
 FieldedAt rule (plain b) = Unit {0}

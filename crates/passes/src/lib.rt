@@ -17,10 +17,3 @@ pub enum Rule {
     Down(usize),
     Ends,
 }
-
-// Where a dimension goes: to another, or it is the one that is replaced.
-#[derive(Clone, Copy)]
-pub enum Moved {
-    To(usize),
-    Hit,
-}

@@ -5,7 +5,7 @@ ghost use Rattle.formula.specs.Answers.{dim_space};
 ghost use Rattle.passes.specs.Rewriting.{moved_to, moved_bytes, image_of, tokens_of, Fielded, FieldedAt, Rewritable, Wrote, spell};
 ghost use Rattle.passes.specs.Stepping.{token_over, DimOver};
 
-use crate::{Moved, Rule, weighing};
+use crate::{Rule, weighing};
 use formula::{Advance, Place, Sort};
 
 // One byte, written at `o`; answers the place after it.
@@ -50,8 +50,8 @@ fn literal_out(
     ensures { Wrote out.old o (moved_bytes b (moved_to rule n) zero.now one.now) result out.new }
 {
     match weighing::move_dim(rule, n) {
-        Moved::To(m) => bytes_out(b, m, out, o),
-        Moved::Hit => {
+        Some(m) => bytes_out(b, m, out, o),
+        None => {
             if b == 3 {
                 return part_out(one, out, o);
             }

@@ -14,10 +14,7 @@ fn leaf_side(b: u8, e: u8) -> u8
     requires { e ≤ 1 }
     ensures { result ≡ pick (eqb b (16 + e)) 1 0 }
 {
-    if b == 16 + e {
-        return 1;
-    }
-    0
+    u8::from(b == 16 + e)
 }
 
 // The side e of a meet or a join: for or fand, and the other way round.
@@ -25,10 +22,7 @@ fn pair_side(b: u8, e: u8) -> u8
     requires { e ≤ 1 }
     ensures { result ≡ pick (eqb b 20) (5 - e) (4 + e) }
 {
-    if b == 20 {
-        return 5 - e;
-    }
-    4 + e
+    if b == 20 { 5 - e } else { 4 + e }
 }
 
 // What a node of kind byte b becomes at the side e, by the step over it, written at `o`; a negation becomes nothing.
@@ -40,9 +34,8 @@ fn side_out(b: u8, x: Advance, e: u8, out: &mut [u8], o: usize) -> usize
     match x {
         Advance::Leaf(_) => rewriting::byte_out(leaf_side(b, e), out, o),
         Advance::Lit(_, n) => rewriting::bytes_out(formula::literal_kind(e), n, out, o),
-        Advance::One(_) => o,
         Advance::Two(_) => rewriting::byte_out(pair_side(b, e), out, o),
-        Advance::Stuck => o,
+        Advance::One(_) | Advance::Stuck => o,
     }
 }
 
@@ -54,9 +47,7 @@ fn push(x: Advance, e: u8, ends: &mut [u8; 1024], top: usize)
     match x {
         Advance::One(_) => ends[top] = 1 - e,
         Advance::Two(_) => ends[top + 1] = e,
-        Advance::Leaf(_) => {}
-        Advance::Lit(_, _) => {}
-        Advance::Stuck => {}
+        Advance::Leaf(_) | Advance::Lit(_, _) | Advance::Stuck => {}
     }
 }
 

@@ -4,41 +4,41 @@ ghost use Rattle.formula.specs.Answers.{dim_space};
 ghost use Rattle.passes.specs.Rewriting.{moved_to, plain_weight, moved_weight, weight_of, weighs, tokens_of, Whole, Small};
 ghost use Rattle.passes.specs.Stepping.{place_by, DimOver, weight_over};
 
-use crate::{Moved, Rule};
+use crate::Rule;
 use formula::{Advance, Kind, Place, Size, Sort};
 
-// Where dimension n goes.
-pub(crate) fn move_dim(rule: Rule, n: usize) -> Moved
+// Where dimension n goes: to another, or it is the one that is replaced.
+pub(crate) fn move_dim(rule: Rule, n: usize) -> Option<usize>
     requires { n < dim_space }
     ensures { result ≡ moved_to rule n }
 {
     match rule {
         Rule::Up(k) => raised(k, n),
         Rule::Down(k) => lowered(k, n),
-        Rule::Ends => Moved::To(n),
+        Rule::Ends => Some(n),
     }
 }
 
-fn raised(k: usize, n: usize) -> Moved
+fn raised(k: usize, n: usize) -> Option<usize>
     requires { n < dim_space }
     ensures { result ≡ moved_to (Rule.Up k) n }
 {
     if n < k {
-        return Moved::To(n);
+        return Some(n);
     }
-    Moved::To(n + 1)
+    Some(n + 1)
 }
 
-fn lowered(k: usize, n: usize) -> Moved
+fn lowered(k: usize, n: usize) -> Option<usize>
     ensures { result ≡ moved_to (Rule.Down k) n }
 {
     if n < k {
-        return Moved::To(n);
+        return Some(n);
     }
     if n == k {
-        return Moved::Hit;
+        return None;
     }
-    Moved::To(n - 1)
+    Some(n - 1)
 }
 
 // The place that a step led to. In a formula no step is stuck; its answer is no place that the caller holds, since to
@@ -47,61 +47,30 @@ pub fn place_by(x: Advance) -> Place
     ensures { result ≡ place_by x }
 {
     match x {
-        Advance::Leaf(q) => q,
-        Advance::Lit(q, _) => q,
-        Advance::One(q) => q,
-        Advance::Two(q) => q,
+        Advance::Leaf(q) | Advance::Lit(q, _) | Advance::One(q) | Advance::Two(q) => q,
         Advance::Stuck => Place { at: 0, pending: 0 },
     }
 }
 
-fn ends_weight(kind: Kind) -> Size
-    ensures { result ≡ plain_weight Rule.Ends kind }
-{
-    match kind {
-        Kind::Unary => Size {
-            len: 0,
-            nodes: 0,
-            bound: 0,
-        },
-        Kind::Nullary => Size {
-            len: 1,
-            nodes: 1,
-            bound: 0,
-        },
-        Kind::Literal => Size {
-            len: 1,
-            nodes: 1,
-            bound: 0,
-        },
-        Kind::Binary => Size {
-            len: 1,
-            nodes: 1,
-            bound: 0,
-        },
-        Kind::Unknown => Size {
-            len: 1,
-            nodes: 1,
-            bound: 0,
-        },
-    }
-}
+const NOTHING: Size = Size {
+    len: 0,
+    nodes: 0,
+    bound: 0,
+};
 
+const ONE_BYTE: Size = Size {
+    len: 1,
+    nodes: 1,
+    bound: 0,
+};
+
+// The boundary of a negation has no node for it.
 fn plain_weight(rule: Rule, kind: Kind) -> Size
     ensures { result ≡ plain_weight rule kind }
 {
-    match rule {
-        Rule::Up(_) => Size {
-            len: 1,
-            nodes: 1,
-            bound: 0,
-        },
-        Rule::Down(_) => Size {
-            len: 1,
-            nodes: 1,
-            bound: 0,
-        },
-        Rule::Ends => ends_weight(kind),
+    match (rule, kind) {
+        (Rule::Ends, Kind::Unary) => NOTHING,
+        _ => ONE_BYTE,
     }
 }
 
@@ -110,12 +79,12 @@ fn literal_weight(rule: Rule, n: usize, hit: Size) -> Size
     ensures { result ≡ moved_weight (moved_to rule n) hit }
 {
     match move_dim(rule, n) {
-        Moved::To(m) => Size {
+        Some(m) => Size {
             len: 1 + formula::DIM,
             nodes: 1,
             bound: m + 1,
         },
-        Moved::Hit => hit,
+        None => hit,
     }
 }
 

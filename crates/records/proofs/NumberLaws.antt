@@ -8,7 +8,11 @@ use mathlib.Core.Bool.{Bool, ◌&&◌, and_assoc}
 use mathlib.Core.List.{List, [], ◌∷◌, ◌++◌, append_assoc}
 use lib.Bits.{bit_or, or_zero_l, or_add_and, and_le_r}
 use lib.Dec.{eqb}
-use lib.ListN.{length, get_or, take, drop, set, replicate, length-append, take-append-drop}
+use lib.ListN.{length, get_or, take, drop, set, replicate, length-append, length-drop, take-append-drop}
+use borrow.Rule.Slice.PartMut.{put_mid}
+use Rattle.std.proofs.lemmas.List.{length-replicate, length-take}
+use Rattle.formula.proofs.ByteLaws.{pasted}
+use Rattle.std.specs.List.{list_all}
 use lib.Seq.{drop-cons, sets, sets-eq, take_at, take-add, drop-drop, drop-append-add, get_or-drop}
 use borrow.Author.Tests.{ne_eqb}
 use Rattle.calculus.specs.Record.{little_endian}
@@ -66,17 +70,20 @@ drop-zeros (suc n) (suc m) = drop-zeros n m ∙ ap (λ (k : ℕ). replicate {A =
 pub put_four : (d : List ℕ) (at n : ℕ) → sets (sets d at (little_endian 2 n)) (at + 2) (little_endian 2 (n / 256 / 256)) ≡ sets d at (little_endian 4 n)
 put_four d at n = sets-append (little_endian 2 n) (little_endian 2 (n / 256 / 256)) d at
 
--- One zero more.
-pub clear_step : (d : List ℕ) (i to : ℕ) → i < to → sets d i (replicate (to - i) 0) ≡ sets (set d i 0) (i + 1) (replicate (to - (i + 1)) 0)
-clear_step d i to h =
-    let e : to - i ≡ suc (to - (i + 1)) = omega arith in
-    ap (λ (n : ℕ). sets d i (replicate n 0)) e ∙ ap (λ (n : ℕ). sets (set d i 0) n (replicate (to - (i + 1)) 0)) (sym (add-one i))
+-- A part that was filled with zeros.
+pub cleared : (d z : List ℕ) (from to : ℕ) → from ≤ to → to ≤ length d → z ≡ replicate (length (take (to - from) (drop from d))) 0 → put_mid from (to - from) d z ≡ sets d from (replicate (to - from) 0)
+cleared d z from to a b e =
+    let n : length (replicate {A = ℕ} (to - from) 0) ≡ to - from = length-replicate (to - from) 0 in
+    let m : length (take (to - from) (drop from d)) ≡ to - from = omega (arith, length-take (to - from) (drop from d), length-drop from d) in
+    let k : to - from ≡ from + length (replicate {A = ℕ} (to - from) 0) - from = omega arith in
+    ap (λ (n : ℕ). put_mid from n d z) k ∙ pasted (replicate (to - from) 0) d z from (omega arith) (e ∙ ap (λ (n : ℕ). replicate {A = ℕ} n 0) m)
 
 -- Zeros ------------------------------------------------------------------------------------------
 
-pub zero-step : (l : List ℕ) (i : ℕ) → i < length l → all_zero (drop i l) ≡ (eqb (get_or l i 0) 0 && all_zero (drop (i + 1) l))
+pub zeros-all : (l : List ℕ) → list_all (λ b. eqb b 0) l ≡ all_zero l
 unfolding all_zero
-zero-step l i h = ap all_zero (drop-cons l i 0 h) ∙ ap (λ (n : ℕ). eqb (get_or l i 0) 0 && all_zero (drop n l)) (sym (add-one i))
+zeros-all [] = refl
+zeros-all (b ∷ l) = ap (λ (t : Bool). eqb b 0 && t) (zeros-all l)
 
 -- A sum is zero exactly where both numbers are.
 add-zeros : (a b : ℕ) → eqb (a + b) 0 ≡ (eqb a 0 && eqb b 0)

@@ -1,4 +1,5 @@
 -- What is read at a place of a list, and that every reading leaves an end of the list.
+use Rattle.std.specs.Prelude.{Option, Some, None, Result, Ok, Err}
 use mathlib.Core.Path.{◌≡◌, refl, sym, ap, ap₂, ◌∙◌}
 use mathlib.Core.List.{List, [], ◌∷◌, ◌++◌}
 use Prim.Native.Nat.{ℕ, zero, suc, ◌+◌, ◌*◌, ◌-◌, ◌≤◌, ◌<◌}
@@ -9,17 +10,14 @@ use lib.Seq.{drop-cons, drop-drop, drop-append_seam}
 use Rattle.formula.specs.declared.Sort.{Sort}
 use Rattle.formula.specs.declared.Sort.TheVariants.{Intervals}
 use Rattle.formula.specs.declared.Size.{Size}
-use Rattle.formula.specs.declared.Measured.{Measured}
-use Rattle.formula.specs.declared.Measured.TheVariants.{Formula, Ill as ill}
+use Rattle.refusals.specs.declared.Refusal.{Refusal}
+use Rattle.refusals.specs.declared.Refusal.TheVariants.{NotAFormula}
 use Rattle.formula.specs.Bytes.{Tree, encode, Got, nothing, got, leaf, lit, one, two, then, read, nodes}
-use Rattle.formula.specs.Answers.{size_of}
-use Rattle.formula.proofs.Measuring.{front_size, measured_at}
+use Rattle.formula.specs.Answers.{size_of, size_front, measurement_at}
 use Rattle.formula.proofs.Nodes.{made_as, tree-ind}
 use Rattle.calculus.specs.Record.{Field, number, index, context, end, formula, faces_bytes, allowed}
 use Rattle.calculus.specs.Parse.{take_little, read_field, read_values, read_references}
 use Rattle.calculus.proofs.Fields.{Post, fails, reads, post-then, post-map, post-only, formula-read, faces-read}
-use Rattle.records.specs.declared.fields.End.{End as Place}
-use Rattle.records.specs.declared.fields.End.TheVariants.{To, Ill}
 use Rattle.records.specs.Places.{little_at, ended}
 
 -- Numbers ---------------------------------------------------------------------------------
@@ -74,7 +72,7 @@ RestIs l g = Post (λ x m. Tail l m) g
 pub leaves_in : {A : Type 0} {l m : List ℕ} {g : Got A} → Tail l m → RestIs m g → RestIs l g
 leaves_in t p = post-map p (λ x r q. tail-trans t q)
 
-little-leaves : (w : ℕ) (l : List ℕ) → RestIs l (take_little w l)
+pub little-leaves : (w : ℕ) (l : List ℕ) → RestIs l (take_little w l)
 unfolding take_little
 little-leaves zero l = reads (tail-append [] l refl)
 little-leaves (suc w) [] = fails
@@ -106,10 +104,10 @@ references-leaves i (suc n) l =
 
 -- Where readings end --------------------------------------------------------------------------
 
-pub ended-drop : {A : Type 0} (a : A) (l : List ℕ) (n : ℕ) → n ≤ length l → ended l (got a (drop n l)) ≡ To n
-ended-drop a l n h = let e : length l - length (drop n l) ≡ n = omega (arith, length-drop n l) in ap To e
+pub ended-drop : {A : Type 0} (a : A) (l : List ℕ) (n : ℕ) → n ≤ length l → ended l (got a (drop n l)) ≡ Some n
+ended-drop a l n h = let e : length l - length (drop n l) ≡ n = omega (arith, length-drop n l) in ap Some e
 
-pub ended-fits : {A : Type 0} (l : List ℕ) (g : Got A) (e : ℕ) → ended l g ≡ To e → e ≤ length l
+pub ended-fits : {A : Type 0} (l : List ℕ) (g : Got A) (e : ℕ) → ended l g ≡ Some e → e ≤ length l
 ended-fits l nothing e h = let z : ◌≡◌ {A = ℕ} 0 1 = cc in absurd (omega arith)
 ended-fits l (got a m) e h = let z : length l - length m ≡ e = cc in omega arith
 
@@ -141,21 +139,21 @@ module _ (s : Sort) (l : List ℕ) (at : ℕ) (h : at ≤ length l) where
       (omega arith, sym (drop-append_seam (encode s t) m) ∙ ap (drop (length (encode s t))) (sym e) ∙ drop-drop (length (encode s t)) at l)
 
   -- What follows a formula at a place, by its size.
-  pub by_size : {B : Type 0} (k : Tree s → List ℕ → Got B) (Q : Measured → Place) → Q ill ≡ Ill
-      → ((t : Tree s) → at + length (encode s t) ≤ length l → ended l (k t (drop (at + length (encode s t)) l)) ≡ Q (Formula (size_of s t)))
-      → ended l (then (read s (drop at l)) k) ≡ Q (measured_at s l at)
-  unfolding measured_at
+  pub by_size : {B : Type 0} (k : Tree s → List ℕ → Got B) (Q : Result Size Refusal → Option ℕ) → Q (Err NotAFormula) ≡ None
+      → ((t : Tree s) → at + length (encode s t) ≤ length l → ended l (k t (drop (at + length (encode s t)) l)) ≡ Q (Ok (size_of s t)))
+      → ended l (then (read s (drop at l)) k) ≡ Q (measurement_at s l at)
+  unfolding measurement_at
   by_size k Q i j = go (formula-read s (drop at l))
     where
-      go : {g : Got (Tree s)} → Post (λ t m. drop at l ≡ encode s t ++ m) g → ended l (then g k) ≡ Q (front_size s g)
+      go : {g : Got (Tree s)} → Post (λ t m. drop at l ≡ encode s t ++ m) g → ended l (then g k) ≡ Q (size_front s g)
       go fails = sym i
       go (reads {a = t} {m} e) = let b = behind t m e in ap (λ (z : List ℕ). ended l (k t z)) b.1 ∙ j t b.0
 
-  pub size_fits : (z : Size) → measured_at s l at ≡ Formula z → (at + z.len ≤ length l) × (z.nodes ≤ z.len)
-  unfolding measured_at
+  pub size_fits : (z : Size) → measurement_at s l at ≡ Ok z → (at + z.len ≤ length l) × (z.nodes ≤ z.len)
+  unfolding measurement_at
   size_fits z = go (formula-read s (drop at l))
     where
-      go : {g : Got (Tree s)} → Post (λ t m. drop at l ≡ encode s t ++ m) g → front_size s g ≡ Formula z → (at + z.len ≤ length l) × (z.nodes ≤ z.len)
+      go : {g : Got (Tree s)} → Post (λ t m. drop at l ≡ encode s t ++ m) g → size_front s g ≡ Ok z → (at + z.len ≤ length l) × (z.nodes ≤ z.len)
       go fails e = let q : ◌≡◌ {A = ℕ} 0 1 = cc in absurd (omega arith)
       go (reads {a = t} {m} e) i =
           let q : size_of s t ≡ z = cc in

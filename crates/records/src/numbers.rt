@@ -6,18 +6,12 @@ ghost use Rattle.calculus.specs.Record.{little_endian};
 ghost use Rattle.calculus.specs.Parse.{all_zero};
 ghost use Rattle.records.specs.Places.{little_at};
 
-fn wide(b: u8) -> usize
-    ensures { (result ≡ b) × (result < 256) }
-{
-    b as usize
-}
-
 // The number of two bytes at `at`. That every element of a slice is a byte is said here, once for all readers.
 pub fn get2(s: &[u8], at: usize) -> usize
     requires { at + 2 ≤ length s.now }
     ensures { (result ≡ little_at 2 s.now at) × (result < 65536) × AllBelow 256 s.now }
 {
-    wide(s[at]) + 256 * wide(s[at + 1])
+    s[at] as usize + 256 * s[at + 1] as usize
 }
 
 // The number of four bytes at `at`.
@@ -51,11 +45,7 @@ pub fn clear(s: &mut [u8], from: usize, to: usize)
     requires { (from ≤ to) × (to ≤ length s.old) }
     ensures { s.new ≡ sets s.old from (replicate (to - from) 0) }
 {
-    let mut i = from;
-    while i < to {
-        s[i] = 0;
-        i += 1;
-    }
+    s[from..to].fill(0);
 }
 
 // The number of eight bytes at `at`.
@@ -87,14 +77,7 @@ fn tail_is_zero(s: &[u8], at: usize) -> bool
     requires { at ≤ length s.now }
     ensures { result ≡ all_zero (drop at s.now) }
 {
-    let mut i = at;
-    while i < s.len() {
-        if s[i] != 0 {
-            return false;
-        }
-        i += 1;
-    }
-    true
+    s[at..].iter().all(|&b| b == 0)
 }
 
 // Whether all bytes from `at` on are zeros, sixty-four a turn.

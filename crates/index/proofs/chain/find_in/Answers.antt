@@ -35,8 +35,8 @@ loop-i-preserved c = let k : c.loop-i.i ≡ suc (c.loop-i.i - 1) = omega arith i
 pub slot-requires : goal.slot-requires
 slot-requires c = omega (arith, c.requires.0.room, holds-eight c.requires.0.led)
 
-pub returns-then-found-eq0 : goal.returns-then-found-eq0
-returns-then-found-eq0 c = none_found c.requires.0 c.args.b c.args.predicate c.args.operands.now c.requires.1 c.loop-i.invariant (omega arith) c.if-found-eq0.true c.slot.ensures.0
+pub returns-in-Some : goal.returns-in-Some
+returns-in-Some c = one_found c.requires.0 c.args.b c.args.predicate c.args.operands.now c.requires.1 c.loop-i.invariant (omega arith) c.in-Some.is
 
-pub returns : goal.returns
-returns c = let k : c.loop-i.found ≡ suc (c.loop-i.found - 1) = omega (arith, c.if-found-eq0.false) in one_found c.requires.0 c.args.b c.args.predicate c.args.operands.now c.requires.1 c.loop-i.invariant (omega arith) k
+pub returns-in-None : goal.returns-in-None
+returns-in-None c = none_found c.requires.0 c.args.b c.args.predicate c.args.operands.now c.requires.1 c.loop-i.invariant (omega arith) c.in-None.is c.slot.ensures.0

@@ -1,9 +1,9 @@
-use native.Mathlib.Omega.{arith}
-use Rattle.kinds.proofs.KindLaws.{entry-law, entry-above}
+use Rattle.std.proofs.Common.{sym, ap, ◌∙◌}
+use Rattle.kinds.specs.Kinds.{entry_as}
 use Rattle.kinds.proofs.table.entry_of.Goals as goal
 
-pub returns-then-kind-gt75 : goal.returns-then-kind-gt75
-returns-then-kind-gt75 c = entry-above c.args.kind c.if-kind-gt75.true
+pub returns-in_err-references : goal.returns-in_err-references
+returns-in_err-references c = c.from_residual.ensures ∙ sym (ap entry_as c.in_err-references.ensures)
 
 pub returns : goal.returns
-returns c = entry-law c.args.kind c.row_of-row.result (omega arith) (omega arith) c.row_of-row.ensures
+returns c = c.in_ok-references.ensures.1

@@ -1,9 +1,5 @@
-use Prim.Native.Nat.{◌-◌, ◌≤◌}
 use Rattle.ledger.proofs.PointLaws.{Walks}
 use Rattle.ledger.proofs.steps.walk_to.Given as goal
 
 abbrev pub invariant-loop-step : goal.invariant-loop-step
-invariant-loop-step l = Walks l.l l.step l.at × (l.step ≤ l.i)
-
-abbrev pub decreases-loop-step : goal.decreases-loop-step
-decreases-loop-step l = l.i - l.step
+invariant-loop-step l = Walks l.l l.step l.at

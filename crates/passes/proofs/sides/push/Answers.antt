@@ -1,5 +1,6 @@
 use native.Mathlib.Omega.{arith}
 use mathlib.Core.Path.{sym, ap}
+use mathlib.Core.Logic.{inl, inr}
 use Rattle.passes.specs.Stepping.{kind_over}
 use Rattle.formula.specs.declared.Kind.TheVariants.{Nullary, Literal, Unknown}
 use Rattle.passes.proofs.SideLaws.{pushed-unary, pushed-binary, pushed-ends, pushed-as}
@@ -12,10 +13,9 @@ pub returns-in-Two : goal.returns-in-Two
 returns-in-Two c = let a = c.args in pushed-as (sym (ap kind_over c.in-Two.is)) (pushed-binary a.ends.now a.top a.e c.requires.0 (omega arith) c.requires.3)
 
 pub returns-in-Leaf : goal.returns-in-Leaf
-returns-in-Leaf c = let a = c.args in pushed-as (sym (ap kind_over c.in-Leaf.is)) (pushed-ends Nullary tt a.e a.ends.now a.top)
-
-pub returns-in-Lit : goal.returns-in-Lit
-returns-in-Lit c = let a = c.args in pushed-as (sym (ap kind_over c.in-Lit.is)) (pushed-ends Literal tt a.e a.ends.now a.top)
-
-pub returns-in-Stuck : goal.returns-in-Stuck
-returns-in-Stuck c = let a = c.args in pushed-as (sym (ap kind_over c.in-Stuck.is)) (pushed-ends Unknown tt a.e a.ends.now a.top)
+returns-in-Leaf c = let a = c.args in
+    elim c.in-Leaf.is [
+      | inl p ↦ pushed-as (sym (ap kind_over p.1)) (pushed-ends Nullary tt a.e a.ends.now a.top)
+      | inr (inl p) ↦ pushed-as (sym (ap kind_over p.2)) (pushed-ends Literal tt a.e a.ends.now a.top)
+      | inr (inr p) ↦ pushed-as (sym (ap kind_over p)) (pushed-ends Unknown tt a.e a.ends.now a.top)
+    ]

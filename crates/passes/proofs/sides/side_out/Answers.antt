@@ -1,6 +1,7 @@
 use native.Mathlib.Omega.{arith}
 use mathlib.Core.Path.{refl, sym, ap, ◌∙◌, subst}
 use mathlib.Core.List.{[], ◌∷◌}
+use mathlib.Core.Logic.{inl, inr}
 use Prim.Native.Nat.{ℕ}
 use lib.ListN.{length}
 use Rattle.passes.specs.Stepping.{DimOver}
@@ -24,10 +25,11 @@ pub returns-in-Lit : goal.returns-in-Lit
 returns-in-Lit c = let a = c.args in wrote_as (sym (side-literal a.e a.b c.in-Lit.is c.requires.0 c.literal_kind.ensures)) c.bytes_out.ensures
 
 pub returns-in-One : goal.returns-in-One
-returns-in-One c = let a = c.args in wrote_as (sym (side-plain a.e a.b c.in-One.is refl c.requires.1)) (wrote_none a.out.now a.o)
+returns-in-One c = let a = c.args in
+    elim c.in-One.is [
+      | inl p ↦ wrote_as (sym (side-plain a.e a.b p.1 refl c.requires.1)) (wrote_none a.out.now a.o)
+      | inr p ↦ wrote_as (sym (side-plain a.e a.b p refl c.requires.1)) (wrote_none a.out.now a.o)
+    ]
 
 pub returns-in-Two : goal.returns-in-Two
 returns-in-Two c = let a = c.args in wrote_as (ap (λ (n : ℕ). n ∷ []) c.pair_side.ensures ∙ sym (side-plain a.e a.b c.in-Two.is refl c.requires.1)) c.byte_out-in-Two.ensures
-
-pub returns-in-Stuck : goal.returns-in-Stuck
-returns-in-Stuck c = let a = c.args in wrote_as (sym (side-plain a.e a.b c.in-Stuck.is refl c.requires.1)) (wrote_none a.out.now a.o)

@@ -1,4 +1,4 @@
-use mathlib.Core.Path.{refl, ◌∙◌}
+use mathlib.Core.Path.{◌∙◌}
 use Rattle.records.proofs.FieldLaws.{number-255, index-254, field_told}
 use Rattle.records.proofs.fields.field_end.Goals as goal
 
@@ -19,6 +19,3 @@ returns-in-Face c = let a = c.args in field_told a.s.now a.at c.in-Face.is c.for
 
 pub returns-in-Interval : goal.returns-in-Interval
 returns-in-Interval c = let a = c.args in field_told a.s.now a.at c.in-Interval.is c.formula_end-in-Interval.ensures
-
-pub returns-in-Nothing : goal.returns-in-Nothing
-returns-in-Nothing c = let a = c.args in field_told a.s.now a.at c.in-Nothing.is refl
