@@ -15,8 +15,7 @@ use Rattle.calculus.specs.Record.{little_endian, operand_bytes}
 use Rattle.calculus.specs.Emit.{emit}
 use Rattle.calculus.specs.Calls.{emit_member}
 use Rattle.calculus.proofs.Growing.{Limited, limited-allowed}
-use Rattle.index.specs.declared.Found.{Found}
-use Rattle.index.specs.declared.Found.TheVariants.{At, Absent}
+use Rattle.std.specs.Prelude.{Result, Ok, Err}
 use Rattle.index.specs.Index.{Knows}
 use Rattle.steps.specs.Running.{Ran, Book, done_by, step_by, Runs, Emits}
 use Rattle.steps.specs.Trees.{Is}
@@ -48,9 +47,9 @@ module _ {G : List Face} {g : Face} {n : ℕ} {l k : List ℕ} (w : Are G n l) (
       (v.0, v.1 ∙ sym (cover-bytes e))
 
   -- What is known of the search, by the operands' bytes.
-  pub cover-known : (L : List Step) (o : List ℕ) (r : Found) → operand_bytes (cover G g) ≡ o → Knows L o r → Settled L G g r
-  cover-known L o (At i) e h = h G g (limited-allowed (cover G g) cover-limited) e
-  cover-known L o (Absent n) e h = tt
+  pub cover-known : (L : List Step) (o : List ℕ) (r : Result ℕ ℕ) → operand_bytes (cover G g) ≡ o → Knows L o r → Settled L G g r
+  cover-known L o (Ok i) e h = h G g (limited-allowed (cover G g) cover-limited) e
+  cover-known L o (Err n) e h = tt
 
 pub by-member-stop : {l l₁ : Book} {r : Ran} (kind : ℕ) (f : Face) (G : List Face) (g : Face) → Runs l (emit_member f G) r l₁ → done_by r ≡ false → Runs l (cover_by kind f G g) r l₁
 by-member-stop kind f G g h d = after_stop {kind = kind} {j = cover G g} refl h d

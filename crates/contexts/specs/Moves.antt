@@ -1,12 +1,10 @@
 -- The answers of the tests of a context, as moves, and the moves that close the search.
-use Rattle.std.specs.Prelude.{◌≡◌, Bool, true, false, List, [], ◌∷◌, ◌++◌, ℕ, suc, ◌+◌, ◌-◌, ◌*◌, ◌≤◌, ◌<◌, length, get_or, set, take, drop, Option, None, Some}
+use Rattle.std.specs.Prelude.{◌≡◌, Bool, true, false, List, [], ◌∷◌, ◌++◌, ℕ, suc, ◌+◌, ◌-◌, ◌*◌, ◌≤◌, ◌<◌, length, get_or, set, take, drop, Option, None, Some, Result, Ok, Err}
 use Rattle.formula.specs.Formula.{lo, hi, Face, ff, ft, at, fand, for}
 use Rattle.calculus.specs.Search.{Move, by-clash, stuck, split_of, try_left}
 use Rattle.calculus.specs.Judgement.{Step, cover}
 use Rattle.calculus.specs.Emit.{Program, emit, ◌>>=◌, done, run}
 use Rattle.calculus.specs.Calls.{emit_member, emit_cover}
-use Rattle.index.specs.declared.Found.{Found}
-use Rattle.index.specs.declared.Found.TheVariants.{At, Absent}
 
 -- The move of a clash at a dimension, if there is one.
 abbrev pub clash_by : Option ℕ → Move
@@ -50,9 +48,9 @@ cover_clash k G g = do
   emit 24 (i ∷ j ∷ []) (cover G g)
 
 -- What is known of the search for a goal in a context: that made again over the steps L it appends nothing and answers i, or nothing.
-abbrev pub Settled : List Step → List Face → Face → Found → Type 0
-Settled L G g (At i) = (room : List Step → Bool) → run room (emit_cover G g) L ≡ done i L
-Settled L G g (Absent n) = Unit {0}
+abbrev pub Settled : List Step → List Face → Face → Result ℕ ℕ → Type 0
+Settled L G g (Ok i) = (room : List Step → Bool) → run room (emit_cover G g) L ≡ done i L
+Settled L G g (Err n) = Unit {0}
 
 -- For a private contract: the face with these bytes is met. Where it is a literal of kind byte b on dimension k, number 2 k + (b - 2) of the table becomes 1, and yes is said only where that of its opposite is 0; else the table stays.
 pub record Meets (l s : List ℕ) (r : Bool) (s' : List ℕ) : Type 0 where

@@ -16,7 +16,6 @@ ghost use Rattle.contexts.specs.Faces.{faces_of};
 ghost use Rattle.contexts.specs.Moves.{cover_by, cover_clash, Settled};
 
 use crate::{Context, members};
-use index::Found;
 use steps::{Producer, Ran};
 
 // The kinds of the rules cover.top, cover.absurd and cover.clash.
@@ -42,9 +41,9 @@ pub fn cover_step(
 }
 
 // The lowest step with this cover judgement, where its search is finished.
-pub fn finished(l: &[u8], ix: &[u32], g: Context, goal: &[u8]) -> Found
-    requires { Indexed l.now ix.now × Known Faces goal.now }
-    ensures { Settled (steps_of l.now) (faces_of g.entry) (tree_of Faces goal.now) result }
+pub fn finished(p: &Producer, g: Context, goal: &[u8]) -> Result<usize, usize>
+    requires { Known Faces goal.now }
+    ensures { Settled (steps_of p.now.ledger.now) (faces_of g.entry) (tree_of Faces goal.now) result }
 {
     let mut operands = [0u8; 2048];
     let i = 2 + g.faces.len();
@@ -52,7 +51,7 @@ pub fn finished(l: &[u8], ix: &[u32], g: Context, goal: &[u8]) -> Found
     formula::copy(&g.count_field(), &mut operands, 0);
     formula::copy(g.faces, &mut operands, 2);
     formula::copy(goal, &mut operands, i);
-    index::finished(l, ix, &operands[..m])
+    index::finished(p.ledger, p.index, &operands[..m])
 }
 
 // The cover step of the goal ft.
