@@ -5,7 +5,6 @@ ghost use Rattle.steps.specs.Parts.{joined, Joins};
 ghost use Rattle.steps.specs.Running.{book, Emits};
 
 use crate::{Ran, Stop};
-use emission::Emitted;
 
 // How many bytes the parts have.
 fn total(parts: &[&[u8]]) -> usize
@@ -46,10 +45,7 @@ fn emit_in(
     ensures { Emits (book l.old ix.old) kind references (joined parts.now) result (book l.new ix.new) }
 {
     let n = join(parts, out);
-    match emission::emit_step(l, ix, kind, references, &out[..n]) {
-        Emitted::Step(i) => Ok(i),
-        Emitted::Full => Err(Stop::Full),
-    }
+    emission::emit_step(l, ix, kind, references, &out[..n]).ok_or(Stop::Full)
 }
 
 // Emits the step of this kind whose operands are the parts, one after another. Most operands are short, and clearing a small array costs little.
