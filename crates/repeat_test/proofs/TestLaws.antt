@@ -13,7 +13,6 @@ use Rattle.calculus.specs.Table.{Pred, p_entails, predicate}
 use Rattle.calculus.specs.Rules.{step_at, judgement_at}
 use Rattle.calculus.specs.Record.{operand_bytes}
 use Rattle.calculus.specs.Parse.{read_ledger}
-use Rattle.refusals.specs.declared.Refusal.TheVariants.{IllFormedLedger}
 use Rattle.std.specs.Prelude.{Result, Ok, Err}
 use Rattle.refusals.specs.declared.Refusal.{Refusal}
 use Rattle.kinds.specs.Kinds.{number_of, predicate_of}
