@@ -22,10 +22,7 @@ pub fn copy(src: &[u8], out: &mut [u8], at: usize)
 pub fn put(src: &[u8], out: &mut [u8], at: usize) -> bool
     ensures { Put src.now at out.old result out.new }
 {
-    if out.len() < at {
-        return false;
-    }
-    if out.len() - at < src.len() {
+    if out.len() < at || out.len() - at < src.len() {
         return false;
     }
     copy(src, out, at);

@@ -1,4 +1,5 @@
 -- The answers of the operations: from operands and results within the limits to sizes, outcomes and written bytes.
+use Rattle.std.specs.Prelude.{Result, Err, Ok}
 use Prim.Native.Nat.{ℕ, ◌≤◌, ◌<◌, min}
 use native.Mathlib.Omega.{arith}
 use native.Mathlib.Nat.{zero-add}
@@ -13,9 +14,9 @@ use Rattle.formula.specs.Formula.{End, lo, hi, end_of, Face, ff, Interval, i0}
 use Rattle.formula.specs.Operations.{boundary, forall, Op, shift, subst as substitute, transform}
 use Rattle.refusals.specs.declared.Refusal.{Refusal}
 use Rattle.refusals.specs.declared.Refusal.TheVariants.{LargeResult, ShortOutput}
-use Rattle.refusals.specs.Refusals.{Result, refused, done, map, of_one, of_two}
+use Rattle.refusals.specs.Refusals.{map, of_one, of_two}
 use Rattle.formula.specs.Bytes.{Tree, encode, encode_face, encode_interval, nodes_face, nodes_interval, bound_face, bound_interval}
-use Rattle.formula.specs.Answers.{pick, size_of, keeps, said_sized, kept, operand}
+use Rattle.formula.specs.Answers.{pick, size_of, keeps, kept, operand}
 use Rattle.operations.specs.Results.{limited, foralled, boundaried, transformed, Answered, AnsweredBoth}
 use Rattle.passes.specs.Rewriting.{Token, tokens, tokens_interval, tokens_of, weighs, weight_of, zero_size, plain_size, Small, spell, image_of, Wrote, Rewritable, sides, Sided, plain, literal}
 use Rattle.operations.specs.Fitting.{resized_by, hit_size, beside_refused, kept_bytes, Fitting}
@@ -23,8 +24,6 @@ use Rattle.formula.specs.declared.Sort.{Sort}
 use Rattle.formula.specs.declared.Sort.TheVariants.{Faces, Intervals}
 use Rattle.formula.specs.declared.Size.{Size}
 use Rattle.operations.specs.declared.Op.TheVariants.{DShift, DSubst}
-use Rattle.formula.specs.declared.Sized.{Sized}
-use Rattle.formula.specs.declared.Sized.TheVariants.{Fits, Refused}
 use Rattle.passes.specs.declared.Rule.{Rule}
 use Rattle.passes.specs.declared.Rule.TheVariants.{Up, Down, Ends}
 use Rattle.formula.proofs.Nodes.{len_short}
@@ -38,20 +37,20 @@ module _ (s : Sort) where
   sized-limited : (t : Tree s) (z : Size) → size_of s t ≡ z → map (size_of s) (limited s t) ≡ kept z z
   sized-limited t z e = rw (← e) (go (keeps (size_of s t)))
     where
-      go : (b : Bool) → map (size_of s) (pick b (done t) (refused LargeResult)) ≡ pick b (done (size_of s t)) (refused LargeResult)
+      go : (b : Bool) → map (size_of s) (pick b (Ok t) (Err LargeResult)) ≡ pick b (Ok (size_of s t)) (Err LargeResult)
       go true = refl
       go false = refl
 
   -- a formula that was kept keeps the limits
-  limited-kept : (t u : Tree s) → limited s t ≡ done u → (t ≡ u) × (keeps (size_of s t) ≡ true)
+  limited-kept : (t u : Tree s) → limited s t ≡ Ok u → (t ≡ u) × (keeps (size_of s t) ≡ true)
   limited-kept t u e = go (keeps (size_of s t)) refl e
     where
-      go : (b : Bool) → keeps (size_of s t) ≡ b → pick b (done t) (refused LargeResult) ≡ done u → (t ≡ u) × (keeps (size_of s t) ≡ true)
+      go : (b : Bool) → keeps (size_of s t) ≡ b → pick b (Ok t) (Err LargeResult) ≡ Ok u → (t ≡ u) × (keeps (size_of s t) ≡ true)
       go true i e = (cc, i)
       go false i e = (cc, cc)
 
   -- the size of a result by the weight of its operand's tokens
-  pub resized-kept : (rule : Rule) (hit : Size) (l : List ℕ) (t : Tree s) → operand s l ≡ done t → (z : Size) → z ≡ weighs (weight_of s rule hit) (tokens_of s l)
+  pub resized-kept : (rule : Rule) (hit : Size) (l : List ℕ) (t : Tree s) → operand s l ≡ Ok t → (z : Size) → z ≡ weighs (weight_of s rule hit) (tokens_of s l)
       → resized_by s rule hit (operand s l) ≡ kept z z
   resized-kept rule hit l t e z i =
       let k : z ≡ weighs (weight_of s rule hit) (tokens s t) = i ∙ ap (λ (u : Tree s). weighs (weight_of s rule hit) (tokens s u)) (opened s l t e).tree in
@@ -59,21 +58,21 @@ module _ (s : Sort) where
 
 -- the same as the size of a result of one operand
 module _ (s s' : Sort) (m : Tree s → Tree s') (rule : Rule) (hit : Size) (w : (t : Tree s) → size_of s' (m t) ≡ weighs (weight_of s rule hit) (tokens s t)) where
-  pub resized-one : (x : Result (Tree s)) → map (size_of s') (of_one (λ t. limited s' (m t)) x) ≡ resized_by s rule hit x
-  resized-one (refused e) = refl
-  resized-one (done t) = sized-limited s' (m t) (weighs (weight_of s rule hit) (tokens s t)) (w t)
+  pub resized-one : (x : Result (Tree s) Refusal) → map (size_of s') (of_one (λ t. limited s' (m t)) x) ≡ resized_by s rule hit x
+  resized-one (Err e) = refl
+  resized-one (Ok t) = sized-limited s' (m t) (weighs (weight_of s rule hit) (tokens s t)) (w t)
 
 -- where a result of one operand was kept, so was the operand
 module _ (s s' : Sort) (m : Tree s → Tree s') where
-  pub record Came (x : Result (Tree s)) (u : Tree s') : Type 0 where
+  pub record Came (x : Result (Tree s) Refusal) (u : Tree s') : Type 0 where
     pub from : Tree s
-    pub is : x ≡ done from
+    pub is : x ≡ Ok from
     pub result : m from ≡ u
     pub limits : keeps (size_of s' (m from)) ≡ true
 
-  pub came : (x : Result (Tree s)) (u : Tree s') → of_one (λ t. limited s' (m t)) x ≡ done u → Came x u
-  came (refused q) u e = absurd (let a : ◌≡◌ {A = ℕ} 0 1 = cc in omega arith)
-  came (done t) u e = let h = limited-kept s' (m t) u e in record { from = t; is = refl; result = h.0; limits = h.1 }
+  pub came : (x : Result (Tree s) Refusal) (u : Tree s') → of_one (λ t. limited s' (m t)) x ≡ Ok u → Came x u
+  came (Err q) u e = absurd (let a : ◌≡◌ {A = ℕ} 0 1 = cc in omega arith)
+  came (Ok t) u e = let h = limited-kept s' (m t) u e in record { from = t; is = refl; result = h.0; limits = h.1 }
 
 ff-size : size_of Faces ff ≡ plain_size
 unfolding encode_face nodes_face bound_face
@@ -112,34 +111,34 @@ shift-resized s k l r =
     (λ t. transform-size s (shift k) t ∙ ap (λ (z : Size). weighs (weight_of s (Up k) z) (tokens s t)) (i0-hit s))
     (operand s l)
 
-boundary-limited : (r : Interval) → keeps (size_of Intervals r) ≡ true → limited Faces (boundary lo r) ≡ done (boundary lo r)
+boundary-limited : (r : Interval) → keeps (size_of Intervals r) ≡ true → limited Faces (boundary lo r) ≡ Ok (boundary lo r)
 boundary-limited r e =
     let k = keeps-limits (size_of Intervals r) e in
     let h = boundary-smaller lo r in
     rw (limits-keep (size_of Faces (boundary lo r)) (omega (arith, h.nodes)) (omega (arith, h.bound)))
 
 -- an operand that is kept keeps the limits
-pub operand-keeps : (s : Sort) (l : List ℕ) (t : Tree s) → operand s l ≡ done t → keeps (size_of s t) ≡ true
+pub operand-keeps : (s : Sort) (l : List ℕ) (t : Tree s) → operand s l ≡ Ok t → keeps (size_of s t) ≡ true
 operand-keeps s l t e = (opened s l t e).limits
 
 -- a replacement that is kept is kept on both sides of its boundary
 hit-with : (s : Sort) (l : List ℕ) → hit_size s (operand Intervals l) ≡ map (hit_of s) (operand Intervals l)
 hit-with Faces l = go (operand Intervals l) refl
   where
-    go : (x : Result Interval) → operand Intervals l ≡ x → hit_size Faces x ≡ map (hit_of Faces) x
-    go (refused e) i = refl
-    go (done r) i = ap (map (size_of Faces)) (boundary-limited r (operand-keeps Intervals l r i))
+    go : (x : Result Interval Refusal) → operand Intervals l ≡ x → hit_size Faces x ≡ map (hit_of Faces) x
+    go (Err e) i = refl
+    go (Ok r) i = ap (map (size_of Faces)) (boundary-limited r (operand-keeps Intervals l r i))
 hit-with Intervals l = refl
 
 -- a replacement that was kept
-abbrev pub Replacing : Sort → Result Interval → Size → Type 0
+abbrev pub Replacing : Sort → Result Interval Refusal → Size → Type 0
 Replacing s x z = FittedBy (hit_of s) x z
 
-pub hit-fits : (s : Sort) (l : List ℕ) {r : Sized} {z : Size} → said_sized r ≡ hit_size s (operand Intervals l) → r ≡ Fits z → Replacing s (operand Intervals l) z
-hit-fits s l e i = with-fits (hit_of s) (operand Intervals l) (e ∙ hit-with s l) i
+pub hit-fits : (s : Sort) (l : List ℕ) {z : Size} → Ok z ≡ hit_size s (operand Intervals l) → Replacing s (operand Intervals l) z
+hit-fits s l e = with-fits (hit_of s) (operand Intervals l) (e ∙ hit-with s l)
 
-pub hit-refused : (s : Sort) (l : List ℕ) {r : Sized} {q : Refusal} → said_sized r ≡ hit_size s (operand Intervals l) → r ≡ Refused q → operand Intervals l ≡ refused q
-hit-refused s l e i = with-refused (hit_of s) (operand Intervals l) (e ∙ hit-with s l) i
+pub hit-refused : (s : Sort) (l : List ℕ) {q : Refusal} → Err q ≡ hit_size s (operand Intervals l) → operand Intervals l ≡ Err q
+hit-refused s l e = with-refused (hit_of s) (operand Intervals l) (e ∙ hit-with s l)
 
 pub hit-small : (s : Sort) (l : List ℕ) (z : Size) → Replacing s (operand Intervals l) z → Small z
 hit-small s l z h = subst Small h.size (go s)
@@ -152,12 +151,12 @@ hit-small s l z h = subst Small h.size (go s)
     go Intervals = record { len = omega (arith, len_short Intervals h.tree, k.0); nodes = k.0 }
 
 -- a result of two operands, the second known
-two-kept : {A B C : Type 0} (f : A → B → Result C) (x : Result A) (b : B) → of_two f x (done b) ≡ of_one (λ a. f a b) x
-two-kept f (refused e) b = refl
-two-kept f (done a) b = refl
+two-kept : {A B C : Type 0} (f : A → B → Result C Refusal) (x : Result A Refusal) (b : B) → of_two f x (Ok b) ≡ of_one (λ a. f a b) x
+two-kept f (Err e) b = refl
+two-kept f (Ok a) b = refl
 
 module _ (s : Sort) (k : ℕ) (l r : List ℕ) where
-  subst-one : (q : Interval) → operand Intervals r ≡ done q → transformed s (DSubst k) l r ≡ of_one (λ t. limited s (transform s (substitute k q) t)) (operand s l)
+  subst-one : (q : Interval) → operand Intervals r ≡ Ok q → transformed s (DSubst k) l r ≡ of_one (λ t. limited s (transform s (substitute k q) t)) (operand s l)
   unfolding transformed
   subst-one q e = rw e (two-kept (λ t q. limited s (transform s (substitute k q) t)) (operand s l) q)
 
@@ -168,33 +167,33 @@ module _ (s : Sort) (k : ℕ) (l r : List ℕ) where
       (λ t. transform-size s (substitute k h.tree) t ∙ ap (λ (x : Size). weighs (weight_of s (Down k) x) (tokens s t)) h.size)
       (operand s l)
 
-  pub subst-refused : {q : Refusal} → operand Intervals r ≡ refused q → map (size_of s) (transformed s (DSubst k) l r) ≡ beside_refused q (map (size_of s) (operand s l))
+  pub subst-refused : {q : Refusal} → operand Intervals r ≡ Err q → map (size_of s) (transformed s (DSubst k) l r) ≡ beside_refused q (map (size_of s) (operand s l))
   unfolding transformed
   subst-refused {q} e = rw e (go (operand s l))
     where
-      go : (x : Result (Tree s)) → map (size_of s) (of_two (λ t q. limited s (transform s (substitute k q) t)) x (refused q)) ≡ beside_refused q (map (size_of s) x)
-      go (refused e) = refl
-      go (done t) = refl
+      go : (x : Result (Tree s) Refusal) → map (size_of s) (of_two (λ t q. limited s (transform s (substitute k q) t)) x (Err q)) ≡ beside_refused q (map (size_of s) x)
+      go (Err e) = refl
+      go (Ok t) = refl
 
 -- a run of stores from the front
 front-stored : (d b : List ℕ) (r : ℕ) (d' : List ℕ) → length b ≤ length d → Wrote d 0 b r d' → d' ≡ b ++ drop (length b) d
 front-stored d b r d' h w = w.stored ∙ sets-eq b d 0 (omega arith) ∙ ap (λ (n : ℕ). b ++ drop n d) (zero-add (length b))
 
 -- an answer with what it leaves
-module _ (s : Sort) (x : Result (Tree s)) (d : List ℕ) where
-  pub answered-refused : {q : Refusal} → x ≡ refused q → Answered s x d (Refused q) d
-  answered-refused e = record { says = rw e; leaves = rw e }
+module _ (s : Sort) (x : Result (Tree s) Refusal) (d : List ℕ) where
+  pub answered-refused : {q : Refusal} → Err q ≡ map (size_of s) x → Answered s x d (Err q) d
+  answered-refused e = let h = sized-refused s x e in record { says = rw h; leaves = rw h }
 
-  pub answered-short : (z : Size) → Fitted s x z → length d < z.len → Answered s x d (Refused ShortOutput) d
+  pub answered-short : (z : Size) → Fitted s x z → length d < z.len → Answered s x d (Err ShortOutput) d
   answered-short z f h =
       let k : leb (length (encode s f.tree)) (length d) ≡ false = lt-leb (length (encode s f.tree)) (length d) (omega (arith, ap (λ (y : Size). y.len) f.size)) in
       record { says = rw (f.is, k); leaves = rw (f.is, k) }
 
-  pub answered-done : (z : Size) (f : Fitted s x z) → z.len ≤ length d → (r : ℕ) (d' : List ℕ) → Wrote d 0 (encode s f.tree) r d' → Answered s x d (Fits z) d'
+  pub answered-done : (z : Size) (f : Fitted s x z) → z.len ≤ length d → (r : ℕ) (d' : List ℕ) → Wrote d 0 (encode s f.tree) r d' → Answered s x d (Ok z) d'
   answered-done z f h r d' w =
       let g : length (encode s f.tree) ≤ length d = omega (arith, ap (λ (y : Size). y.len) f.size) in
       let k : leb (length (encode s f.tree)) (length d) ≡ true = le-leb (length (encode s f.tree)) (length d) g in
-      record { says = rw (f.is, k) (ap done (sym f.size)); leaves = rw (f.is, k) (front-stored d (encode s f.tree) r d' g w) }
+      record { says = rw (f.is, k) (ap Ok (sym f.size)); leaves = rw (f.is, k) (front-stored d (encode s f.tree) r d' g w) }
 
 -- what a pass needs, and the bytes that it gives
 module _ (s : Sort) (m : Tree s → Tree s) (rule : Rule) (hits : ℕ → Tree s) (p : Pass s m rule hits) (hit : Size) (sizes : (b : ℕ) → size_of s (hits b) ≡ hit)
@@ -222,9 +221,9 @@ ff-bytes b = go (eqb b 3)
     go true = refl
     go false = refl
 
-module _ (k : ℕ) (l : List ℕ) {r : Sized} {z : Size} (e : said_sized r ≡ map (size_of Faces) (foralled k l)) (i : r ≡ Fits z) where
+module _ (k : ℕ) (l : List ℕ) {z : Size} (e : Ok z ≡ map (size_of Faces) (foralled k l)) where
   pub forall-fitted : Fitted Faces (foralled k l) z
-  forall-fitted = sized-fits Faces (foralled k l) e i
+  forall-fitted = sized-fits Faces (foralled k l) e
 
   forall-came : Came Faces Faces (forall k) (operand Faces l) forall-fitted.tree
   unfolding foralled
@@ -244,7 +243,7 @@ module _ (k : ℕ) (l : List ℕ) {r : Sized} {z : Size} (e : said_sized r ≡ m
       ∙ ap encode_face forall-came.result
 
 -- the sides of an expression that was kept
-module _ (l : List ℕ) (r : Interval) (e : operand Intervals l ≡ done r) where
+module _ (l : List ℕ) (r : Interval) (e : operand Intervals l ≡ Ok r) where
   pub kept-side : (d : End) → sides (tokens_of Intervals l) (d ∷ []) ≡ encode_face (boundary d r)
   kept-side d = ap (λ (q : Interval). sides (tokens_interval q) (d ∷ [])) (opened Intervals l r e).tree ∙ sides-whole r d
 
@@ -263,9 +262,9 @@ module _ (l : List ℕ) (r : Interval) (e : operand Intervals l ≡ done r) wher
       omega (arith, len_short Faces (boundary d r), h.nodes, k.0)
 
 -- a boundary whose sizes are known
-module _ (l : List ℕ) {r : Sized} {z : Size} (e : said_sized r ≡ map (size_of Faces) (boundaried lo l)) (i : r ≡ Fits z) where
+module _ (l : List ℕ) {z : Size} (e : Ok z ≡ map (size_of Faces) (boundaried lo l)) where
   pub zero-fitted : Fitted Faces (boundaried lo l) z
-  zero-fitted = sized-fits Faces (boundaried lo l) e i
+  zero-fitted = sized-fits Faces (boundaried lo l) e
 
   boundary-came : Came Intervals Faces (boundary lo) (operand Intervals l) zero-fitted.tree
   unfolding boundaried
@@ -300,42 +299,42 @@ boundary-alike : (l : List ℕ) → map (size_of Faces) (boundaried lo l) ≡ ma
 unfolding boundaried
 boundary-alike l = go (operand Intervals l)
   where
-    go : (x : Result Interval) → map (size_of Faces) (of_one (λ r. limited Faces (boundary lo r)) x) ≡ map (size_of Faces) (of_one (λ r. limited Faces (boundary hi r)) x)
-    go (refused e) = refl
-    go (done r) = sized-limited Faces (boundary lo r) (size_of Faces (boundary hi r)) (boundary-sizes lo hi r) ∙ sym (sized-limited Faces (boundary hi r) (size_of Faces (boundary hi r)) refl)
+    go : (x : Result Interval Refusal) → map (size_of Faces) (of_one (λ r. limited Faces (boundary lo r)) x) ≡ map (size_of Faces) (of_one (λ r. limited Faces (boundary hi r)) x)
+    go (Err e) = refl
+    go (Ok r) = sized-limited Faces (boundary lo r) (size_of Faces (boundary hi r)) (boundary-sizes lo hi r) ∙ sym (sized-limited Faces (boundary hi r) (size_of Faces (boundary hi r)) refl)
 
-module _ (l d e : List ℕ) {r : Sized} (j : said_sized r ≡ map (size_of Faces) (boundaried lo l)) where
-  pub both-refused : {q : Refusal} → r ≡ Refused q → AnsweredBoth (boundaried lo l) (boundaried hi l) d e (Refused q) d e
-  both-refused i =
-      let a = sized-refused Faces (boundaried lo l) j i in
-      let b = sized-refused Faces (boundaried hi l) (j ∙ boundary-alike l) i in
+module _ (l d e : List ℕ) where
+  pub both-refused : {q : Refusal} → Err q ≡ map (size_of Faces) (boundaried lo l) → AnsweredBoth (boundaried lo l) (boundaried hi l) d e (Err q) d e
+  both-refused j =
+      let a = sized-refused Faces (boundaried lo l) j in
+      let b = sized-refused Faces (boundaried hi l) (j ∙ boundary-alike l) in
       record { says = rw a; leaves0 = rw a; leaves1 = rw b }
 
-  module _ {z : Size} (i : r ≡ Fits z) where
+  module _ {z : Size} (j : Ok z ≡ map (size_of Faces) (boundaried lo l)) where
     abbrev f : Fitted Faces (boundaried lo l) z
-    f = zero-fitted l j i
+    f = zero-fitted l j
 
     abbrev g : Fitted Faces (boundaried hi l) z
-    g = one-fitted l j i
+    g = one-fitted l j
 
     abbrev lens : (x : Face) → size_of Faces x ≡ z → length (encode_face x) ≡ z.len
     lens x e = ap (λ (y : Size). y.len) e
 
-    pub both-short : min (length d) (length e) < z.len → AnsweredBoth (boundaried lo l) (boundaried hi l) d e (Refused ShortOutput) d e
+    pub both-short : min (length d) (length e) < z.len → AnsweredBoth (boundaried lo l) (boundaried hi l) d e (Err ShortOutput) d e
     both-short h =
         let a : leb (length (encode_face f.tree)) (min (length d) (length e)) ≡ false = lt-leb (length (encode_face f.tree)) (min (length d) (length e)) (omega (arith, lens f.tree f.size)) in
         let b : leb (length (encode_face g.tree)) (min (length d) (length e)) ≡ false = lt-leb (length (encode_face g.tree)) (min (length d) (length e)) (omega (arith, lens g.tree g.size)) in
         record { says = rw (f.is, a); leaves0 = rw (f.is, a); leaves1 = rw (g.is, b) }
 
     pub both-done : z.len ≤ length d → z.len ≤ length e → (m n : ℕ) (d' e' : List ℕ) → Wrote d 0 (sides (tokens_of Intervals l) (lo ∷ [])) m d' → Wrote e 0 (sides (tokens_of Intervals l) (hi ∷ [])) n e'
-        → AnsweredBoth (boundaried lo l) (boundaried hi l) d e (Fits z) d' e'
+        → AnsweredBoth (boundaried lo l) (boundaried hi l) d e (Ok z) d' e'
     both-done h k m n d' e' v w =
         let a : leb (length (encode_face f.tree)) (min (length d) (length e)) ≡ true = le-leb (length (encode_face f.tree)) (min (length d) (length e)) (omega (arith, lens f.tree f.size)) in
         let b : leb (length (encode_face g.tree)) (min (length d) (length e)) ≡ true = le-leb (length (encode_face g.tree)) (min (length d) (length e)) (omega (arith, lens g.tree g.size)) in
         record {
-          says = rw (f.is, a) (ap done (sym f.size));
-          leaves0 = rw (f.is, a) (front-stored d (encode_face f.tree) m d' (omega (arith, lens f.tree f.size)) (wrote_as (zero-side l j i) v));
-          leaves1 = rw (g.is, b) (front-stored e (encode_face g.tree) n e' (omega (arith, lens g.tree g.size)) (wrote_as (one_side l j i) w));
+          says = rw (f.is, a) (ap Ok (sym f.size));
+          leaves0 = rw (f.is, a) (front-stored d (encode_face f.tree) m d' (omega (arith, lens f.tree f.size)) (wrote_as (zero-side l j) v));
+          leaves1 = rw (g.is, b) (front-stored e (encode_face g.tree) n e' (omega (arith, lens g.tree g.size)) (wrote_as (one_side l j) w));
         }
 
 -- the bytes that replace a literal, by its side
@@ -366,7 +365,7 @@ spell-up k u v x y [] = refl
 spell-up k u v x y (t ∷ ts) = ap₂ (λ (a b : List ℕ). a ++ b) (up-image k u v x y t) (spell-up k u v x y ts)
 
 -- a transformed formula that was kept, by its one operand
-module _ (s : Sort) (o : Op) (l : List ℕ) (x : Result (Tree s)) (e : x ≡ of_one (λ t. limited s (transform s o t)) (operand s l)) (n : ℕ) (f : Fitting s x n) where
+module _ (s : Sort) (o : Op) (l : List ℕ) (x : Result (Tree s) Refusal) (e : x ≡ of_one (λ t. limited s (transform s o t)) (operand s l)) (n : ℕ) (f : Fitting s x n) where
   transform-came : Came s s (transform s o) (operand s l) f.tree
   transform-came = came s s (transform s o) (operand s l) f.tree (sym e ∙ f.is)
 
@@ -407,16 +406,16 @@ module _ (s : Sort) (k : ℕ) (l r : List ℕ) (n : ℕ) (f : Fitting s (transfo
 module _ (s : Sort) (k : ℕ) (l r : List ℕ) (n : ℕ) (f : Fitting s (transformed s (DSubst k) l r) n) where
   pub record By : Type 0 where
     pub interval : Interval
-    pub is : operand Intervals r ≡ done interval
+    pub is : operand Intervals r ≡ Ok interval
 
   pub subst-by : By
   unfolding transformed
   subst-by = go (operand s l) (operand Intervals r) refl f.is
     where
-      go : (x : Result (Tree s)) (y : Result Interval) → operand Intervals r ≡ y → of_two (λ t q. limited s (transform s (substitute k q) t)) x y ≡ done f.tree → By
-      go x (done q) i e = record { interval = q; is = i }
-      go (refused a) (refused b) i e = absurd (let a : ◌≡◌ {A = ℕ} 0 1 = cc in omega arith)
-      go (done t) (refused b) i e = absurd (let a : ◌≡◌ {A = ℕ} 0 1 = cc in omega arith)
+      go : (x : Result (Tree s) Refusal) (y : Result Interval Refusal) → operand Intervals r ≡ y → of_two (λ t q. limited s (transform s (substitute k q) t)) x y ≡ Ok f.tree → By
+      go x (Ok q) i e = record { interval = q; is = i }
+      go (Err a) (Err b) i e = absurd (let a : ◌≡◌ {A = ℕ} 0 1 = cc in omega arith)
+      go (Ok t) (Err b) i e = absurd (let a : ◌≡◌ {A = ℕ} 0 1 = cc in omega arith)
 
   abbrev q : Interval
   q = subst-by.interval
@@ -437,10 +436,10 @@ pub wrote-front : (d b : List ℕ) (r : ℕ) (d' : List ℕ) → length b ≤ le
 wrote-front d b r d' h w = ap (take r) (front-stored d b r d' h w) ∙ take_at b (drop (length b) d) r (omega (arith, w.next))
 
 -- a result that was kept, with room
-pub fitting : (s : Sort) (x : Result (Tree s)) (z : Size) (n : ℕ) → Fitted s x z → z.len ≤ n → Fitting s x n
+pub fitting : (s : Sort) (x : Result (Tree s) Refusal) (z : Size) (n : ℕ) → Fitted s x z → z.len ≤ n → Fitting s x n
 fitting s x z n f h = record { tree = f.tree; is = f.is; room = omega (arith, ap (λ (y : Size). y.len) f.size) }
 
-pub answered-kept : (s : Sort) (x : Result (Tree s)) (d : List ℕ) (z : Size) → Fitted s x z → z.len ≤ length d → (r : ℕ) (d' : List ℕ) → Wrote d 0 (kept_bytes s x) r d' → Answered s x d (Fits z) d'
+pub answered-kept : (s : Sort) (x : Result (Tree s) Refusal) (d : List ℕ) (z : Size) → Fitted s x z → z.len ≤ length d → (r : ℕ) (d' : List ℕ) → Wrote d 0 (kept_bytes s x) r d' → Answered s x d (Ok z) d'
 answered-kept s x d z f h r d' w = answered-done s x d z f h r d' (wrote_as (ap (kept_bytes s) f.is) w)
 
 -- a side that was written into a scratch array is its front
@@ -449,7 +448,7 @@ pub record There (n : ℕ) (b d : List ℕ) : Type 0 where
   pub count : n ≡ length (take n d)
   pub bytes : b ≡ take n d
 
-pub side-there : (l : List ℕ) (r : Interval) → operand Intervals l ≡ done r → (n m : ℕ) (d : List ℕ) → Wrote (replicate 1024 0) 0 (sides (tokens_of Intervals l) (end_of n ∷ [])) m d
+pub side-there : (l : List ℕ) (r : Interval) → operand Intervals l ≡ Ok r → (n m : ℕ) (d : List ℕ) → Wrote (replicate 1024 0) 0 (sides (tokens_of Intervals l) (end_of n ∷ [])) m d
     → There m (encode_face (boundary (end_of n) r)) d
 side-there l r e n m d w =
     let x : Wrote (replicate 1024 0) 0 (encode_face (boundary (end_of n) r)) m d = wrote_as (kept-side l r e (end_of n)) w in

@@ -1,4 +1,5 @@
 -- The results of the operations by the tokens of their operands: their sizes and their bytes.
+use Rattle.std.specs.Prelude.{Option, Some, None}
 use Prim.Native.Nat.{ℕ, pred, ◌≤◌, compare, Ordering}
 use native.Mathlib.Omega.{arith}
 use mathlib.Core.Path.{◌≡◌, refl, sym, ap, ap₂, ◌∙◌, subst}
@@ -16,8 +17,6 @@ use Rattle.formula.specs.declared.Size.{Size}
 use Rattle.formula.specs.declared.Kind.{Kind}
 use Rattle.passes.specs.declared.Rule.{Rule}
 use Rattle.passes.specs.declared.Rule.TheVariants.{Up, Down, Ends}
-use Rattle.passes.specs.declared.Moved.{Moved}
-use Rattle.passes.specs.declared.Moved.TheVariants.{To, Hit}
 use Rattle.formula.proofs.Nodes.{made_as, EachNode, each-node, tree-ind}
 use Rattle.passes.proofs.TokenLaws.{tokens-as, spell-append}
 use Rattle.passes.proofs.PassLaws.{size-eq, sum-assoc}
@@ -27,7 +26,7 @@ module _ (s : Sort) (b : ℕ) where
   size-leaf : (t : Tree s) → node_of s b ≡ leaf t → size_of s t ≡ plain_size
   size-leaf t e = let k = made_as s b (leaf t) e in size-eq (ap length k.bytes) k.count k.top
 
-  size_lit : (g : ℕ → Tree s) → node_of s b ≡ lit g → (n : ℕ) → size_of s (g n) ≡ moved_weight (To n) zero_size
+  size_lit : (g : ℕ → Tree s) → node_of s b ≡ lit g → (n : ℕ) → size_of s (g n) ≡ moved_weight (Some n) zero_size
   size_lit g e n = let k = made_as s b (lit g) e n in size-eq (ap length k.bytes) k.count (omega (arith, k.top))
 
   size-one : (u : Tree s → Tree s) → node_of s b ≡ one u → (x : Tree s) → size_of s (u x) ≡ plain_size ⊕ size_of s x
@@ -44,9 +43,9 @@ weighs-append f [] us = size-eq (omega arith) (omega arith) (omega arith)
 weighs-append f (t ∷ ts) us = ap (λ (z : Size). f t ⊕ z) (weighs-append f ts us) ∙ sym (sum-assoc (f t) (weighs f ts) (weighs f us))
 
 -- the formula that a literal becomes
-abbrev pub moved_tree : {A : Type 0} → (ℕ → A) → Moved → A → A
-moved_tree g (To m) h = g m
-moved_tree g Hit h = h
+abbrev pub moved_tree : {A : Type 0} → (ℕ → A) → Option ℕ → A → A
+moved_tree g (Some m) h = g m
+moved_tree g None h = h
 
 -- An operation that keeps every node but the literals, and moves or replaces those by the rule.
 abbrev pub PassAt : (s : Sort) → (Tree s → Tree s) → Rule → (ℕ → Tree s) → ℕ → Node (Tree s) → Type 0
@@ -68,9 +67,9 @@ module _ (s : Sort) (m : Tree s → Tree s) (rule : Rule) (hits : ℕ → Tree s
     abbrev f : Token → Size
     f = weight_of s rule hit
 
-    moved-size : (b : ℕ) (g : ℕ → Tree s) → node_of s b ≡ lit g → (x : Moved) → size_of s (moved_tree g x (hits b)) ≡ moved_weight x hit
-    moved-size b g e (To n) = size_lit s b g e n
-    moved-size b g e Hit = sized b
+    moved-size : (b : ℕ) (g : ℕ → Tree s) → node_of s b ≡ lit g → (x : Option ℕ) → size_of s (moved_tree g x (hits b)) ≡ moved_weight x hit
+    moved-size b g e (Some n) = size_lit s b g e n
+    moved-size b g e None = sized b
 
     abbrev Weighs : Tree s → Type 0
     Weighs t = size_of s (m t) ≡ weighs f (tokens s t)
@@ -99,9 +98,9 @@ module _ (s : Sort) (m : Tree s → Tree s) (rule : Rule) (hits : ℕ → Tree s
     abbrev img : Token → List ℕ
     img = image_of rule x y
 
-    moved-bytes : (b : ℕ) (g : ℕ → Tree s) → node_of s b ≡ lit g → (z : Moved) → encode s (moved_tree g z (hits b)) ≡ moved_bytes b z x y
-    moved-bytes b g e (To n) = (made_as s b (lit g) e n).bytes
-    moved-bytes b g e Hit = bytes b
+    moved-bytes : (b : ℕ) (g : ℕ → Tree s) → node_of s b ≡ lit g → (z : Option ℕ) → encode s (moved_tree g z (hits b)) ≡ moved_bytes b z x y
+    moved-bytes b g e (Some n) = (made_as s b (lit g) e n).bytes
+    moved-bytes b g e None = bytes b
 
     abbrev Spells : Tree s → Type 0
     Spells t = encode s (m t) ≡ spell img (tokens s t)
@@ -145,7 +144,7 @@ forall-lit : (k : ℕ) (e : End) (n : ℕ) → forall k (at e n) ≡ moved_tree 
 unfolding forall
 forall-lit k e n = go (compare n k)
   where
-    go : (o : Ordering) → beside o (at e n) ff (at e (pred n)) ≡ moved_tree (at e) (beside o (To n) Hit (To (pred n))) ff
+    go : (o : Ordering) → beside o (at e n) ff (at e (pred n)) ≡ moved_tree (at e) (beside o (Some n) None (Some (pred n))) ff
     go Ordering.lt = refl
     go Ordering.eq = refl
     go Ordering.gt = refl
@@ -154,15 +153,15 @@ dim-lit : (o : Op) (n : ℕ) → dim_to o n ≡ moved_tree dim (moved_to (rule_o
 dim-lit (shift k) n = refl
 dim-lit (substitute k r) n = go (compare n k)
   where
-    go : (o : Ordering) → beside o (dim n) r (dim (pred n)) ≡ moved_tree dim (beside o (To n) Hit (To (pred n))) r
+    go : (o : Ordering) → beside o (dim n) r (dim (pred n)) ≡ moved_tree dim (beside o (Some n) None (Some (pred n))) r
     go Ordering.lt = refl
     go Ordering.eq = refl
     go Ordering.gt = refl
 
-boundary-moved : (e : End) (x : Moved) (r : Interval) → boundary e (moved_tree dim x r) ≡ moved_tree (at e) x (boundary e r)
+boundary-moved : (e : End) (x : Option ℕ) (r : Interval) → boundary e (moved_tree dim x r) ≡ moved_tree (at e) x (boundary e r)
 unfolding boundary
-boundary-moved e (To n) r = refl
-boundary-moved e Hit r = refl
+boundary-moved e (Some n) r = refl
+boundary-moved e None r = refl
 
 -- ∀k passes over its operand, each literal on k becoming ff.
 pub forall-pass : (k : ℕ) → Pass Faces (forall k) (Down k) (λ b. ff)
@@ -266,6 +265,6 @@ bound-fields s rule hit [] h = tt
 bound-fields s rule hit (plain b ∷ ts) h = (tt, bound-fields s rule hit ts (omega arith))
 bound-fields s rule hit (literal b n ∷ ts) h = (go (moved_to rule n) (omega arith), bound-fields s rule hit ts (omega arith))
   where
-    go : (x : Moved) → (moved_weight x hit).bound ≤ 255 → Fielded x
-    go (To m) g = omega arith
-    go Hit g = tt
+    go : (x : Option ℕ) → (moved_weight x hit).bound ≤ 255 → Fielded x
+    go (Some m) g = omega arith
+    go None g = tt

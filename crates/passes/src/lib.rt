@@ -7,7 +7,7 @@ mod weighing;
 
 pub use rewriting::rewrite;
 pub use sides::side;
-pub use weighing::{place_by, weigh};
+pub use weighing::{NOTHING, ONE_BYTE, place_by, weigh};
 
 // What a pass does to the dimensions: raises those from k on; lowers those above k and replaces k itself; or makes the
 // faces of a boundary.

@@ -52,13 +52,14 @@ pub fn place_by(x: Advance) -> Place
     }
 }
 
-const NOTHING: Size = Size {
+// The size of nothing, and that of a node of one byte.
+pub const NOTHING: Size = Size {
     len: 0,
     nodes: 0,
     bound: 0,
 };
 
-const ONE_BYTE: Size = Size {
+pub const ONE_BYTE: Size = Size {
     len: 1,
     nodes: 1,
     bound: 0,

@@ -1,4 +1,5 @@
 -- What is answered is what the producer's own check says, and that check never meets its count of 10,000 nodes.
+use Rattle.std.specs.Prelude.{Ok}
 use Prim.Native.Nat.{ℕ, suc, ◌+◌, ◌≤◌, ◌<◌, max}
 use native.Mathlib.Omega.{arith}
 use native.Mathlib.Decide.{dec_le}
@@ -6,7 +7,7 @@ use mathlib.Core.Path.{◌≡◌, refl, ap, ◌∙◌, subst}
 use mathlib.Core.Bool.{and-false}
 use mathlib.Core.List.{List}
 use borrow.Author.Tests.{le-leb, lt-leb}
-use Rattle.refusals.specs.Refusals.{done, of_one}
+use Rattle.refusals.specs.Refusals.{of_one}
 use Rattle.formula.specs.Bytes.{Tree, Node, leaf, lit, one, two, bad, node_of, nodes, bound}
 use Rattle.formula.specs.Answers.{operand}
 use Rattle.formula.specs.declared.Sort.{Sort}
@@ -129,7 +130,7 @@ module _ (s : Sort) where
       })
 
 -- The check of an operand that keeps questions 2, 3 and 4, from the root.
-module _ (s : Sort) (l : List ℕ) (t : Tree s) (e : operand s l ≡ done t) where
+module _ (s : Sort) (l : List ℕ) (t : Tree s) (e : operand s l ≡ Ok t) where
   few : nodes s t ≤ 511
   few = (opened-limits s (opened s l t e)).0
 
@@ -146,7 +147,7 @@ module _ (s : Sort) (l : List ℕ) (t : Tree s) (e : operand s l ≡ done t) whe
       go (larger a) i = let z : ◌≡◌ {A = ℕ} 0 1 = cc in omega arith
 
   limited-answered : {c : Check} → Comes (nodes s t) (depth s t) (bound s t) 0 0 c → limited s t ≡ answered c
-  limited-answered (counts a b j) = rw (le-leb (bound s t) 33 b, le-leb (depth s t) 32 (omega arith)) (ap done (omega arith))
+  limited-answered (counts a b j) = rw (le-leb (bound s t) 33 b, le-leb (depth s t) 32 (omega arith)) (ap Ok (omega arith))
   limited-answered (deeper a) = rw (lt-leb (depth s t) 32 (omega arith), and-false)
   limited-answered (larger a) = rw (lt-leb (bound s t) 33 a)
 

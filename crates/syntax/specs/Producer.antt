@@ -1,8 +1,8 @@
 -- The check of the Rust's producer/syntax.rs in its own order: at each node the depth and the count, then a dimension's
 -- index, then the parts, the left one first.
-use Rattle.std.specs.Prelude.{ℕ, suc, leb}
+use Rattle.std.specs.Prelude.{ℕ, suc, leb, Result, Err, Ok}
+use Rattle.refusals.specs.declared.Refusal.{Refusal}
 use Rattle.refusals.specs.declared.Refusal.TheVariants.{BeyondProducer}
-use Rattle.refusals.specs.Refusals.{Result, refused, done}
 use Rattle.formula.specs.Formula.{Face, ff, ft, at, fand, for, Interval, i0, i1, dim, neg, meet, join}
 use Rattle.formula.specs.Bytes.{Tree}
 use Rattle.formula.specs.Answers.{pick}
@@ -50,8 +50,8 @@ check Faces f d n = check_face f d n
 check Intervals r d n = check_interval r d n
 
 -- What the check is answered with here: its count, or 13.
-abbrev pub answered : Check → Result ℕ
-answered (count n) = done n
-answered too-deep = refused BeyondProducer
-answered too_many = refused BeyondProducer
-answered too_large = refused BeyondProducer
+abbrev pub answered : Check → Result ℕ Refusal
+answered (count n) = Ok n
+answered too-deep = Err BeyondProducer
+answered too_many = Err BeyondProducer
+answered too_large = Err BeyondProducer

@@ -1,7 +1,8 @@
 -- The producer's limits on formulas, and what is answered (document 02, W2).
-use Rattle.std.specs.Prelude.{ℕ, suc, max, ◌&&◌, List, leb}
+use Rattle.std.specs.Prelude.{ℕ, suc, max, ◌&&◌, List, leb, Result, Err, Ok}
+use Rattle.refusals.specs.declared.Refusal.{Refusal}
 use Rattle.refusals.specs.declared.Refusal.TheVariants.{BeyondProducer}
-use Rattle.refusals.specs.Refusals.{Result, refused, done, of_one}
+use Rattle.refusals.specs.Refusals.{of_one}
 use Rattle.formula.specs.Formula.{Face, ff, ft, at, fand, for, Interval, i0, i1, dim, neg, meet, join}
 use Rattle.formula.specs.Bytes.{Tree, nodes, bound}
 use Rattle.formula.specs.Answers.{pick, operand}
@@ -36,9 +37,9 @@ abbrev pub max_depth : ℕ
 max_depth = 32
 
 -- Question 13: the node count of a formula within the limits. A bound is one more than the largest index.
-abbrev pub limited : (s : Sort) → Tree s → Result ℕ
-limited s t = pick (leb (bound s t) (suc max_index) && leb (depth s t) max_depth) (done (nodes s t)) (refused BeyondProducer)
+abbrev pub limited : (s : Sort) → Tree s → Result ℕ Refusal
+limited s t = pick (leb (bound s t) (suc max_index) && leb (depth s t) max_depth) (Ok (nodes s t)) (Err BeyondProducer)
 
 -- What is answered of bytes: questions 2, 3 and 4 of the operand, then 13.
-abbrev pub counted : Sort → List ℕ → Result ℕ
+abbrev pub counted : Sort → List ℕ → Result ℕ Refusal
 counted s l = of_one (limited s) (operand s l)

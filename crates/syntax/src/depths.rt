@@ -10,14 +10,14 @@ use formula::{Advance, Place, Sort};
 
 // The nodes above the next one are a stack of bits, the lowest node's first: 1 where it waits for its second part. A 1
 // above all of them tells how many there are; where it is this bit or a higher one, that is more than 32.
-const TOO_DEEP: u64 = 8589934592;
+const TOO_DEEP: u64 = 1 << 33;
 
 // Behind a leaf: up to the lowest node that waits, whose second part comes next. Where none waits the formula is at its end.
 fn back(above: u64) -> u64
     requires { Above above }
     ensures { Back above result }
 {
-    (above >> u64::trailing_zeros(above)) - 1
+    (above >> above.trailing_zeros()) - 1
 }
 
 // Behind a node, by the step over it.
@@ -26,11 +26,9 @@ fn onward(x: Advance, above: u64) -> u64
     ensures { Onward (kind_over x) above result }
 {
     match x {
-        Advance::Leaf(_) => back(above),
-        Advance::Lit(_, _) => back(above),
         Advance::One(_) => 2 * above,
         Advance::Two(_) => 2 * above + 1,
-        Advance::Stuck => back(above),
+        Advance::Leaf(_) | Advance::Lit(_, _) | Advance::Stuck => back(above),
     }
 }
 

@@ -1,11 +1,11 @@
 -- For private contracts and for the crates above: texts written at a place of an output, as far as it reaches.
-use Rattle.std.specs.Prelude.{ℕ, zero, suc, ◌+◌, ◌-◌, ◌≤◌, ◌<◌, ◌≡◌, List, [], ◌∷◌, ◌++◌, length, get_or, drop}
+use Rattle.std.specs.Prelude.{ℕ, zero, suc, ◌+◌, ◌-◌, ◌≤◌, ◌<◌, ◌≡◌, Result, List, [], ◌∷◌, ◌++◌, length, get_or, drop}
 use Rattle.std.proofs.lemmas.List.Edits.{sets}
 use Rattle.formula.specs.declared.Sort.{Sort}
 use Rattle.formula.specs.Bytes.{Tree, Got, got, read}
 use Rattle.text.specs.Words.{names, first_kind}
 use Rattle.text.specs.Wholes.{Delivers}
-use Rattle.text.specs.declared.Length.{Length}
+use Rattle.refusals.specs.declared.Refusal.{Refusal}
 use Rattle.writing.specs.Texts.{formula_text}
 use Rattle.writing.specs.declared.Place.{Place}
 
@@ -60,5 +60,5 @@ abbrev pub FormulaPrints : Sort → List ℕ → List ℕ → ℕ → Place → 
 FormulaPrints s l out to r out' = Prints (read s) (formula_text s) l out to r out'
 
 -- The text of the formula in front of the bytes was delivered.
-pub record Delivered (s : Sort) (l out : List ℕ) (r : Length) (out' : List ℕ) : Type 0 where
+pub record Delivered (s : Sort) (l out : List ℕ) (r : Result ℕ Refusal) (out' : List ℕ) : Type 0 where
   pub it : (t : Tree s) (m : List ℕ) → read s l ≡ got t m → Delivers (formula_text s t) out r out'

@@ -8,14 +8,10 @@ pub fn put(x: &[u8], out: &mut [u8], to: usize) -> usize
     ensures { Wrote x.now out.old to result out.new }
 {
     let end = to + x.len();
-    if end <= out.len() {
-        formula::copy(x, out, to);
-        return end;
-    }
     if out.len() <= to {
         return end;
     }
-    let fits = out.len() - to;
+    let fits = x.len().min(out.len() - to);
     formula::copy(&x[..fits], out, to);
     end
 }
@@ -27,7 +23,6 @@ pub fn put_byte(b: u8, out: &mut [u8], to: usize) -> usize
 {
     if to < out.len() {
         out[to] = b;
-        return to + 1;
     }
     to + 1
 }
@@ -38,10 +33,8 @@ pub(crate) fn put_times(x: &[u8], n: usize, out: &mut [u8], to: usize) -> usize
     ensures { Wrote (times n x.now) out.old to result out.new }
 {
     let mut at = to;
-    let mut i: usize = 0;
-    while i < n {
+    for i in 0..n {
         at = put(x, out, at);
-        i += 1;
     }
     at
 }

@@ -6,54 +6,17 @@ ghost use Rattle.writing.specs.Writing.{Room, Wrote, node_name, Names, opened, F
 ghost use Rattle.writing.specs.Answers.{WritesInto};
 
 use crate::{Place, bytes, numbers};
-use formula::{Kind, Sized, Sort};
+use formula::{Kind, Sort};
 use refusals::Refusal;
-use text::Length;
-
-// Writes name j of six.
-fn put_nth(
-    j: u8,
-    a: &[u8],
-    b: &[u8],
-    c: &[u8],
-    d: &[u8],
-    e: &[u8],
-    f: &[u8],
-    out: &mut [u8],
-    to: usize,
-) -> usize
-    requires { (j < 6) × Room to (get_or (a.now ∷ b.now ∷ c.now ∷ d.now ∷ e.now ∷ f.now ∷ []) j []) }
-    ensures { Wrote (get_or (a.now ∷ b.now ∷ c.now ∷ d.now ∷ e.now ∷ f.now ∷ []) j []) out.old to result out.new }
-{
-    match j {
-        0 => bytes::put(a, out, to),
-        1 => bytes::put(b, out, to),
-        2 => bytes::put(c, out, to),
-        3 => bytes::put(d, out, to),
-        4 => bytes::put(e, out, to),
-        _ => bytes::put(f, out, to),
-    }
-}
 
 // Writes the name of a node.
 fn put_name(sort: Sort, kind: u8, out: &mut [u8], to: usize) -> usize
     requires { Names sort kind × Room to (node_name sort kind) }
     ensures { Wrote (node_name sort kind) out.old to result out.new }
 {
-    match sort {
-        Sort::Faces => put_nth(kind, b"ff", b"ft", b"at0", b"at1", b"fand", b"for", out, to),
-        Sort::Intervals => put_nth(
-            kind - 16,
-            b"i0",
-            b"i1",
-            b"dim",
-            b"neg",
-            b"meet",
-            b"join",
-            out,
-            to,
-        ),
-    }
+    let names = text::names(sort);
+    let place = usize::from(kind - text::first_kind(sort));
+    bytes::put(names[place], out, to)
 }
 
 // Opens the list of a node: its name and a space.
@@ -61,9 +24,9 @@ fn begin(sort: Sort, kind: u8, out: &mut [u8], to: usize) -> usize
     requires { Names sort kind × Room to (opened sort kind) }
     ensures { Wrote (opened sort kind) out.old to result out.new }
 {
-    let a = bytes::put_byte(40, out, to);
+    let a = bytes::put_byte(b'(', out, to);
     let b = put_name(sort, kind, out, a);
-    bytes::put_byte(32, out, b)
+    bytes::put_byte(b' ', out, b)
 }
 
 // Writes the literal in front of f.
@@ -74,7 +37,7 @@ fn literal(sort: Sort, f: &[u8], out: &mut [u8], to: usize) -> Place
     let a = begin(sort, f[0], out, to);
     let n = formula::dim_at(f, 1);
     let b = numbers::unary(n, out, a);
-    let end = bytes::put_byte(41, out, b);
+    let end = bytes::put_byte(b')', out, b);
     Place {
         at: 1 + formula::DIM,
         to: end,
@@ -98,18 +61,18 @@ pub fn formula(sort: Sort, f: &[u8], out: &mut [u8], to: usize) -> Place
             let p = formula(sort, &f[1..], out, a);
             Place {
                 at: 1 + p.at,
-                to: bytes::put_byte(41, out, p.to),
+                to: bytes::put_byte(b')', out, p.to),
             }
         }
         Kind::Binary => {
             let a = begin(sort, kind, out, to);
             let p = formula(sort, &f[1..], out, a);
-            let b = bytes::put_byte(32, out, p.to);
+            let b = bytes::put_byte(b' ', out, p.to);
             let m = 1 + p.at;
             let q = formula(sort, &f[m..], out, b);
             Place {
                 at: m + q.at,
-                to: bytes::put_byte(41, out, q.to),
+                to: bytes::put_byte(b')', out, q.to),
             }
         }
         Kind::Unknown => Place { at: 0, to },
@@ -117,25 +80,23 @@ pub fn formula(sort: Sort, f: &[u8], out: &mut [u8], to: usize) -> Place
 }
 
 // Writes the text of a formula, once it is known to keep the limits, where it fits.
-fn sized(sort: Sort, f: &[u8], out: &mut [u8]) -> Length
+fn sized(sort: Sort, f: &[u8], out: &mut [u8]) -> Result<usize, Refusal>
     requires { FormulaFronts sort f.now 0 }
     ensures { Delivered sort f.now out.old result out.new }
 {
     let mut none = [0u8; 0];
     let end = formula(sort, f, &mut none, 0);
     if out.len() < end.to {
-        return Length::Refused(Refusal::ShortOutput);
+        return Err(Refusal::ShortOutput);
     }
     let p = formula(sort, f, out, 0);
-    Length::Bytes(p.to)
+    Ok(p.to)
 }
 
 // Writes the text of the formula that the bytes are.
-pub fn write_formula(sort: Sort, f: &[u8], out: &mut [u8]) -> Length
+pub fn write_formula(sort: Sort, f: &[u8], out: &mut [u8]) -> Result<usize, Refusal>
     ensures { WritesInto sort f.now out.old result out.new }
 {
-    match formula::operand(sort, f) {
-        Sized::Fits(_) => sized(sort, f, out),
-        Sized::Refused(e) => Length::Refused(e),
-    }
+    formula::operand(sort, f)?;
+    sized(sort, f, out)
 }

@@ -13,7 +13,7 @@ pub fn unary(n: usize, out: &mut [u8], to: usize) -> usize
         return to + (4 * n + 1);
     }
     let a = bytes::put_times(b"(s ", n, out, to);
-    let b = bytes::put_byte(122, out, a);
+    let b = bytes::put_byte(b'z', out, a);
     bytes::put_times(b")", n, out, b)
 }
 
@@ -23,8 +23,8 @@ pub fn decimal(n: usize, out: &mut [u8], to: usize) -> usize
     ensures { Wrote (decimal_text n) out.old to result out.new }
 {
     if n < 10 {
-        return bytes::put_byte((48 + n) as u8, out, to);
+        return bytes::put_byte(b'0' + n as u8, out, to);
     }
     let at = decimal(n / 10, out, to);
-    bytes::put_byte((48 + n % 10) as u8, out, at)
+    bytes::put_byte(b'0' + (n % 10) as u8, out, at)
 }

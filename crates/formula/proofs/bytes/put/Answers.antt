@@ -5,8 +5,5 @@ use Rattle.formula.proofs.bytes.put.Goals as goal
 pub returns-then-out-at : goal.returns-then-out-at
 returns-then-out-at c = let a = c.args in put-out a.src.now a.at a.out.now (omega arith)
 
-pub returns-then-out-at-2 : goal.returns-then-out-at-2
-returns-then-out-at-2 c = let a = c.args in put-out a.src.now a.at a.out.now (omega arith)
-
 pub returns : goal.returns
 returns c = let a = c.args in put_in a.src.now a.at a.out.now _ (omega arith) c.copy.ensures

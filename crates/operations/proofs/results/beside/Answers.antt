@@ -1,12 +1,10 @@
+use Rattle.std.specs.Prelude.{Err}
 use mathlib.Core.Path.{sym, ap, ◌∙◌}
-use Rattle.refusals.specs.Refusals.{refused}
-use Rattle.formula.specs.Answers.{said_sized}
 use Rattle.operations.specs.Fitting.{beside_refused}
-use Rattle.formula.specs.declared.Sized.{Sized}
 use Rattle.operations.proofs.results.beside.Goals as goal
 
-pub returns-in-Fits : goal.returns-in-Fits
-returns-in-Fits c = let a = c.args in sym (ap (λ (x : Sized). beside_refused a.e (said_sized x)) c.in-Fits.is)
+pub returns-in-Ok : goal.returns-in-Ok
+returns-in-Ok c = let a = c.args in sym (ap (beside_refused a.e) c.in-Ok.is)
 
-pub returns-in-Refused : goal.returns-in-Refused
-returns-in-Refused c = let a = c.args in ap refused c.earlier.ensures ∙ sym (ap (λ (x : Sized). beside_refused a.e (said_sized x)) c.in-Refused.is)
+pub returns-in-Err : goal.returns-in-Err
+returns-in-Err c = let a = c.args in ap Err c.earlier.ensures ∙ sym (ap (beside_refused a.e) c.in-Err.is)

@@ -4,11 +4,11 @@ use Rattle.operations.proofs.AnswerLaws.{hit-fits, hit-refused, hit-small, subst
 use Rattle.operations.proofs.results.subst_size.Goals as goal
 
 pub resized-requires : goal.resized-requires
-resized-requires c = let a = c.args in hit-small a.sort a.r.now _ (hit-fits a.sort a.r.now c.hit_size.ensures c.in-Fits.is)
+resized-requires c = let a = c.args in hit-small a.sort a.r.now _ (hit-fits a.sort a.r.now c.in-Ok.ensures)
 
-pub returns-in-Fits : goal.returns-in-Fits
-returns-in-Fits c = let a = c.args in c.resized.ensures ∙ sym (subst-resized a.sort a.k a.s.now a.r.now _ (hit-fits a.sort a.r.now c.hit_size.ensures c.in-Fits.is))
+pub returns-in-Ok : goal.returns-in-Ok
+returns-in-Ok c = let a = c.args in c.resized.ensures ∙ sym (subst-resized a.sort a.k a.s.now a.r.now _ (hit-fits a.sort a.r.now c.in-Ok.ensures))
 
-pub returns-in-Refused : goal.returns-in-Refused
-returns-in-Refused c = let a = c.args in
-    c.beside.ensures ∙ ap (beside_refused _) c.operand.ensures ∙ sym (subst-refused a.sort a.k a.s.now a.r.now (hit-refused a.sort a.r.now c.hit_size.ensures c.in-Refused.is))
+pub returns-in-Err : goal.returns-in-Err
+returns-in-Err c = let a = c.args in
+    c.beside.ensures ∙ ap (beside_refused _) c.operand.ensures ∙ sym (subst-refused a.sort a.k a.s.now a.r.now (hit-refused a.sort a.r.now c.in-Err.ensures))

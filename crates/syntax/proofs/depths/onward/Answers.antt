@@ -2,13 +2,11 @@ use native.Mathlib.Omega.{arith}
 use Rattle.syntax.proofs.WordLaws.{above_low, onward-back, onward-one, onward-two}
 use Rattle.passes.specs.Stepping.{kind_over}
 use mathlib.Core.Path.{refl, ap}
+use mathlib.Core.Logic.{inl, inr}
 use Rattle.syntax.proofs.depths.onward.Goals as goal
 
 pub back-requires : goal.back-requires
 back-requires c = c.requires
-
-pub back-requires-in-Lit : goal.back-requires-in-Lit
-back-requires-in-Lit c = c.requires
 
 pub overflow_mul-result : goal.overflow_mul-result
 overflow_mul-result c = omega (arith, above_low c.requires)
@@ -19,20 +17,16 @@ overflow_mul-result-in-Two c = omega (arith, above_low c.requires)
 pub overflow_add-result : goal.overflow_add-result
 overflow_add-result c = omega (arith, above_low c.requires)
 
-pub back-requires-in-Stuck : goal.back-requires-in-Stuck
-back-requires-in-Stuck c = c.requires
-
 pub returns-in-Leaf : goal.returns-in-Leaf
-returns-in-Leaf c = onward-back (ap kind_over c.in-Leaf.is) (λ d ds. refl) c.back.ensures
-
-pub returns-in-Lit : goal.returns-in-Lit
-returns-in-Lit c = onward-back (ap kind_over c.in-Lit.is) (λ d ds. refl) c.back-in-Lit.ensures
+returns-in-Leaf c =
+    elim c.in-Leaf.is [
+      | inl p ↦ onward-back (ap kind_over p.1) (λ d ds. refl) c.back.ensures
+      | inr (inl p) ↦ onward-back (ap kind_over p.2) (λ d ds. refl) c.back.ensures
+      | inr (inr p) ↦ onward-back (ap kind_over p) (λ d ds. refl) c.back.ensures
+    ]
 
 pub returns-in-One : goal.returns-in-One
 returns-in-One c = onward-one (ap kind_over c.in-One.is) refl
 
 pub returns-in-Two : goal.returns-in-Two
 returns-in-Two c = onward-two (ap kind_over c.in-Two.is) refl
-
-pub returns-in-Stuck : goal.returns-in-Stuck
-returns-in-Stuck c = onward-back (ap kind_over c.in-Stuck.is) (λ d ds. refl) c.back-in-Stuck.ensures

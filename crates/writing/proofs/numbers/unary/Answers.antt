@@ -7,6 +7,12 @@ use Rattle.writing.proofs.WriteLaws.{room-first, room_next, room_as, wrote-next,
 use Rattle.writing.proofs.NumberLaws.{unary-split, unary-length}
 use Rattle.writing.proofs.numbers.unary.Goals as goal
 
+pub returns-then-out-to : goal.returns-then-out-to
+returns-then-out-to c = wrote-to (ap (λ k. c.args.to + k) (unary-length c.args.n)) (wrote-beyond (unary_text c.args.n) c.args.out.now c.args.to c.if-out-to.true)
+
+pub returns : goal.returns
+returns c = wrote_as (unary-split c.args.n) (wrote-next c.put_times-a.ensures (wrote-next c.put_byte-b.ensures c.put_times.ensures))
+
 pub overflow_mul-result : goal.overflow_mul-result
 overflow_mul-result c = record { fits = omega (arith, c.requires.fits, unary-length c.args.n) }
 
@@ -16,9 +22,6 @@ overflow_add-result c = record { fits = omega (arith, c.requires.fits, unary-len
 pub overflow_add-result-then-out-to : goal.overflow_add-result-then-out-to
 overflow_add-result-then-out-to c = record { fits = omega (arith, c.requires.fits, unary-length c.args.n) }
 
-pub returns-then-out-to : goal.returns-then-out-to
-returns-then-out-to c = wrote-to (ap (λ k. c.args.to + k) (unary-length c.args.n)) (wrote-beyond (unary_text c.args.n) c.args.out.now c.args.to c.if-out-to.true)
-
 pub put_times-a-requires : goal.put_times-a-requires
 put_times-a-requires c = room-first _ _ (room_as (sym (unary-split c.args.n)) c.requires)
 
@@ -27,6 +30,3 @@ put_byte-b-requires c = room-first (122 ∷ []) _ (room_next _ (room_as (sym (un
 
 pub put_times-requires : goal.put_times-requires
 put_times-requires c = room_next _ (room_next {x = _} (122 ∷ _) (room_as (sym (unary-split c.args.n)) c.requires) c.put_times-a.ensures) c.put_byte-b.ensures
-
-pub returns : goal.returns
-returns c = wrote_as (unary-split c.args.n) (wrote-next c.put_times-a.ensures (wrote-next c.put_byte-b.ensures c.put_times.ensures))
