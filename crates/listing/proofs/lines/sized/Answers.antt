@@ -1,5 +1,5 @@
 use Rattle.std.proofs.Common.{refl, rules, sym}
-use Rattle.writing.proofs.DeliverLaws.{short-delivers, wrote-delivers}
+use Rattle.writing.proofs.DeliverLaws.{short-delivers, writes-deliver}
 use Rattle.listing.proofs.LineLaws.{line-shows, line-of}
 use Rattle.listing.proofs.lines.sized.Goals as goal
 
@@ -14,5 +14,5 @@ line-requires-2 c = line-shows c.requires.0 c.requires.1 c.seek-c.ensures.0 c.se
 
 pub returns : goal.returns
 returns c =
-    wrote-delivers (line-of c.args.l.now c.seek-c.ensures.0 c.line.ensures.wrote) c.if-out-measure.false (line-of c.args.l.now c.seek-c.ensures.0 c.line-2.ensures.wrote)
+    writes-deliver (line-of c.args.l.now c.seek-c.ensures.0 c.line.ensures.wrote) c.if-out-measure.false (line-of c.args.l.now c.seek-c.ensures.0 c.line-2.ensures.wrote)
     (let s = c.line-2.ensures.same in search (rules, s, sym))
