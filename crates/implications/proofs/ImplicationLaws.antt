@@ -1,8 +1,7 @@
 -- The emitters of entails and endpoint.
-use Prim.Native.Nat.{ℕ, ◌+◌, ◌≤◌}
+use Prim.Native.Nat.{ℕ, ◌≤◌}
 use native.Mathlib.Omega.{arith}
 use mathlib.Core.Path.{◌≡◌, refl, sym, ap, ap₂, ◌∙◌}
-use mathlib.Core.Bool.{Bool}
 use mathlib.Core.List.{List, [], ◌∷◌, ◌++◌, append-nil}
 use lib.ListN.{length, length-append}
 use Rattle.formula.specs.declared.Sort.TheVariants.{Faces, Intervals}
@@ -14,7 +13,6 @@ use Rattle.calculus.specs.Rules.{Rule}
 use Rattle.calculus.specs.Search.{nodes_context}
 use Rattle.calculus.specs.Record.{faces_bytes, bound_context, operand_bytes}
 use Rattle.calculus.specs.Calls.{side, emit_interval, emit_face, emit_cover, emit_entails, bounds, emit_boundary, emit_endpoint}
-use Rattle.calculus.specs.Door.{end_of}
 use Rattle.calculus.proofs.Growing.{IsEnd, is-i0, is-i1, Limited}
 use Rattle.calculus.proofs.Ends.{local_at}
 use Rattle.steps.specs.Trees.{Is, Known}
@@ -85,5 +83,5 @@ unfolding encode_interval
 end-short lo = refl
 end-short hi = refl
 
-pub local-short : {d : ℕ} {c x : List ℕ} (e : End) {p r : List ℕ} → length p ≤ 1022 → length r ≤ 1022 → c ≡ dim_bytes d → x ≡ encode Intervals (side e i0 i1) → length (c ++ (p ++ (r ++ x))) ≤ 4096
-local-short {c = c} {x} e {p} {r} h k i j = omega (arith, ap length i, ap length j, end-short e, length-append c (p ++ (r ++ x)), length-append p (r ++ x), length-append r x)
+pub local-short : {d : ℕ} {c x : List ℕ} (e : End) (p r : List ℕ) → length p ≤ 1022 → length r ≤ 1022 → c ≡ dim_bytes d → x ≡ encode Intervals (side e i0 i1) → length (c ++ (p ++ (r ++ x))) ≤ 4096
+local-short {c = c} {x} e p r h k i j = omega (arith, ap length i, ap length j, end-short e, length-append c (p ++ (r ++ x)), length-append p (r ++ x), length-append r x)
