@@ -7,7 +7,7 @@ use mathlib.Core.Bool.{Bool, true, false, ◌&&◌}
 use mathlib.Core.List.{List, [], ◌∷◌}
 use lib.Dec.{leb}
 use lib.ListN.{length, take, drop}
-use lib.Seq.{sets, sets-eq, length-sets, take_at}
+use lib.Seq.{sets, sets-eq, take_at}
 use borrow.Author.Tests.{le-leb, lt-leb}
 use Rattle.formula.specs.declared.Sort.{Sort}
 use Rattle.formula.specs.declared.Sort.TheVariants.{Faces}
@@ -16,43 +16,32 @@ use Rattle.formula.specs.Answers.{pick, same_bytes, Put}
 use Rattle.formula.proofs.Nodes.{len_short}
 use Rattle.refusals.specs.declared.Refusal.{Refusal}
 use Rattle.refusals.specs.declared.Refusal.TheVariants.{ShortOutput, NotAccepted}
-use Rattle.refusals.specs.Refusals.{Result, refused, done, map}
+use Rattle.refusals.specs.Refusals.{map}
+use Rattle.std.specs.Prelude.{Result, Ok, Err}
 use Rattle.text.specs.Tokens.{Token, tokens}
 use Rattle.text.specs.Words.{entails-word}
 use Rattle.text.specs.Reading.{Item, formula, part, number, claim, run, read_formula, Claimed, read_claim}
 use Rattle.text.specs.Scanning.{between, Lexes, number_at, Numerals}
 use Rattle.text.specs.Parsing.{single, part_at, Found, Parses}
 use Rattle.text.specs.Answers.{delivered, ReadsInto, both_put, both_delivered, ReadsClaim}
-use Rattle.text.specs.Wholes.{Finishes, WholeFound, Whole, Delivers, DeliversBoth, ClaimStarts, SecondFace, BothFaces, ClaimFound, WholeClaim}
+use Rattle.text.specs.Wholes.{Finishes, WholeFound, Whole, Delivers, DeliversBoth, ClaimStarts, BothFaces, ClaimFound, WholeClaim}
+use Rattle.text.specs.declared.Token.{Token as Answered}
 use Rattle.text.specs.declared.Token.TheVariants.{Open, Close, Word, End}
-use Rattle.text.specs.declared.Closed.{Closed}
-use Rattle.text.specs.declared.Closed.TheVariants.{Behind, Missing}
-use Rattle.text.specs.declared.Numeral.TheVariants.{Read as ReadNumber, Refused as RefusedNumber}
+use Rattle.text.specs.declared.Numeral.{Numeral}
 use Rattle.text.specs.declared.Cursor.{Cursor}
-use Rattle.text.specs.declared.Parsed.{Parsed}
-use Rattle.text.specs.declared.Parsed.TheVariants.{Read, Refused}
-use Rattle.text.specs.declared.Length.{Length}
-use Rattle.text.specs.declared.Length.TheVariants.{Bytes, Refused as refused_length}
 use Rattle.text.specs.declared.Claim.{Claim}
-use Rattle.text.specs.declared.Claim.TheVariants.{Read as ReadClaim, Refused as RefusedClaim}
 
 -- The end of a text.
-module _ {l : List ℕ} {c : Cursor} where
-  pub not-open : {e : ℕ} → Lexes l c.at (Open e) → Finishes l c (Refused NotAccepted)
-  unfolding run
-  not-open h = record { it = λ n. ap (λ (ts : List Token). run ts n []) h.it.0 }
+pub not-end : {l : List ℕ} {c : Cursor} (t : Answered) → Lexes l c.at t → (t ≡ End → ⊥) → Finishes l c (Err NotAccepted)
+unfolding run
+not-end (Open e) h f = record { it = λ n. ap (λ (ts : List Token). run ts n []) h.it.0 }
+not-end (Close e) h f = record { it = λ n. ap (λ (ts : List Token). run ts n []) h.it.0 }
+not-end (Word b e) h f = record { it = λ n. ap (λ (ts : List Token). run ts n []) h.it.0 }
+not-end End h f = absurd (f refl)
 
-  pub not-close : {e : ℕ} → Lexes l c.at (Close e) → Finishes l c (Refused NotAccepted)
-  unfolding run
-  not-close h = record { it = λ n. ap (λ (ts : List Token). run ts n []) h.it.0 }
-
-  pub not-word : {b e : ℕ} → Lexes l c.at (Word b e) → Finishes l c (Refused NotAccepted)
-  unfolding run
-  not-word h = record { it = λ n. ap (λ (ts : List Token). run ts n []) h.it.0 }
-
-  pub at-end : Lexes l c.at End → Finishes l c (Read c)
-  unfolding run
-  at-end h = record { it = (λ n. ap (λ (ts : List Token). run ts n []) h.it, refl) }
+pub at-end : {l : List ℕ} {c : Cursor} {t : Answered} → Lexes l c.at t → t ≡ End → Finishes l c (Ok c)
+unfolding run
+at-end {l} {c} h e = let g = subst (Lexes l c.at) e h in record { it = (λ n. ap (λ (ts : List Token). run ts n []) g.it, refl) }
 
 -- A formula's nodes are counted anew.
 pub formula-part : (ts : List Token) (n : ℕ) (s : Sort) (K : List Item) → run ts n (formula s ∷ K) ≡ run ts max_nodes (part s ∷ K)
@@ -67,8 +56,8 @@ fresh i = record { at = i; to = 0; left = 511 }
 short-made : (s : Sort) (t : Tree s) → nodes s t ≤ 511 → length (encode s t) ≤ 1022
 short-made s t h = omega (arith, len_short s t, h)
 
-pub whole-found : {s : Sort} {l out out' : List ℕ} {i : ℕ} {c : Cursor} {r : Parsed} → Found (single s) (part_at s l (fresh i)) l (fresh i) out c out' → Finishes l c r → Whole s l i out r out'
-whole-found {s} {l} {i = i} {c} {r = Read d} f h =
+pub whole-found : {s : Sort} {l out out' : List ℕ} {i : ℕ} {c : Cursor} {r : Result Cursor Refusal} → Found (single s) (part_at s l (fresh i)) l (fresh i) out c out' → Finishes l c r → Whole s l i out r out'
+whole-found {s} {l} {i = i} {c} {r = Ok d} f h =
     record {
       it = record {
         tree = f.thing;
@@ -78,9 +67,9 @@ whole-found {s} {l} {i = i} {c} {r = Read d} f h =
         short = short-made s f.thing (omega (arith, f.count));
       };
     }
-whole-found {s} {l} {i = i} {c} {r = Refused q} f h = record { it = λ n. formula-part (tokens (drop i l)) n s [] ∙ f.reads [] ∙ ap (map (λ v. (f.thing, v))) (h.it c.left) }
+whole-found {s} {l} {i = i} {c} {r = Err q} f h = record { it = λ n. formula-part (tokens (drop i l)) n s [] ∙ f.reads [] ∙ ap (map (λ v. (f.thing, v))) (h.it c.left) }
 
-pub whole-refused : {s : Sort} {l out out' : List ℕ} {i : ℕ} {q : Refusal} → Parses (single s) (part_at s l (fresh i)) l (fresh i) out (Refused q) out' → Whole s l i out (Refused q) out'
+pub whole-refused : {s : Sort} {l out out' : List ℕ} {i : ℕ} {q : Refusal} → Parses (single s) (part_at s l (fresh i)) l (fresh i) out (Err q) out' → Whole s l i out (Err q) out'
 whole-refused {s} {l} {i = i} h = record { it = λ n. formula-part (tokens (drop i l)) n s [] ∙ h.it [] }
 
 -- What was made, in front of a scratch slice.
@@ -90,88 +79,82 @@ made-front x d {m} e h =
     ap (take m) (sets-eq x d 0 p) ∙ take_at x (drop (0 + length x) d) m (sym e)
 
 -- Delivery.
-pub delivers : {x out out' : List ℕ} {t : Bool} → t ≡ true → Put x 0 out t out' → Delivers x out (Bytes (length x)) out'
+pub delivers : {x out out' : List ℕ} {t : Bool} → t ≡ true → Put x 0 out t out' → Delivers x out (Ok (length x)) out'
 delivers {x} {out} e h =
     let b : leb (length x) (length out) ≡ true = ap (λ (n : ℕ). leb n (length out)) (sym (zero-add (length x))) ∙ sym h.says ∙ e in
-    record { equal = ap (λ (t : Bool). pick t (record { answer = done (length x); output = sets out 0 x }) (record { answer = refused ShortOutput; output = out })) b ∙ ap (λ (o : List ℕ). record { answer = done (length x); output = o }) (sym (h.leaves ∙ ap (λ (t : Bool). pick t (sets out 0 x) out) (sym h.says ∙ e))) }
+    record { equal = ap (λ (t : Bool). pick t (record { answer = Ok (length x); output = sets out 0 x }) (record { answer = Err ShortOutput; output = out })) b ∙ ap (λ (o : List ℕ). record { answer = Ok (length x); output = o }) (sym (h.leaves ∙ ap (λ (t : Bool). pick t (sets out 0 x) out) (sym h.says ∙ e))) }
 
-pub delivers-not : {x out out' : List ℕ} {t : Bool} → t ≡ false → Put x 0 out t out' → Delivers x out (refused_length ShortOutput) out'
+pub delivers-not : {x out out' : List ℕ} {t : Bool} → t ≡ false → Put x 0 out t out' → Delivers x out (Err ShortOutput) out'
 delivers-not {x} {out} e h =
     let b : leb (length x) (length out) ≡ false = ap (λ (n : ℕ). leb n (length out)) (sym (zero-add (length x))) ∙ sym h.says ∙ e in
-    record { equal = ap (λ (t : Bool). pick t (record { answer = done (length x); output = sets out 0 x }) (record { answer = refused ShortOutput; output = out })) b ∙ ap (λ (o : List ℕ). record { answer = refused ShortOutput; output = o }) (sym (h.leaves ∙ ap (λ (t : Bool). pick t (sets out 0 x) out) (sym h.says ∙ e))) }
+    record { equal = ap (λ (t : Bool). pick t (record { answer = Ok (length x); output = sets out 0 x }) (record { answer = Err ShortOutput; output = out })) b ∙ ap (λ (o : List ℕ). record { answer = Err ShortOutput; output = o }) (sym (h.leaves ∙ ap (λ (t : Bool). pick t (sets out 0 x) out) (sym h.says ∙ e))) }
 
-pub formula-delivered : {s : Sort} {l made made' out out' : List ℕ} {m : ℕ} {r : Length} → WholeFound s l 0 made m made' → length made ≡ 1024 → Delivers (take m made') out r out' → ReadsInto s l out r out'
+pub formula-delivered : {s : Sort} {l made made' out out' : List ℕ} {m : ℕ} {r : Result ℕ Refusal} → WholeFound s l 0 made m made' → length made ≡ 1024 → Delivers (take m made') out r out' → ReadsInto s l out r out'
 unfolding read_formula
 formula-delivered {s} {l} {made} {made'} {out} {m = m} f k h =
     let x : List ℕ = encode s f.tree in
     let p : take m made' ≡ x = ap (take m) f.wrote ∙ made-front x made f.upto (omega (arith, f.short, k)) in
-    record { equal = ap (λ (o : Result (Tree s)). delivered (map (encode s) o) out) (ap (map (λ v. v.0)) (f.reads 0)) ∙ ap (λ (x : List ℕ). delivered (done x) out) (sym p) ∙ h.equal }
+    record { equal = ap (λ (o : Result (Tree s) Refusal). delivered (map (encode s) o) out) (ap (map (λ v. v.0)) (f.reads 0)) ∙ ap (λ (x : List ℕ). delivered (Ok x) out) (sym p) ∙ h.equal }
 
-pub formula-refused : {s : Sort} {l made made' out : List ℕ} {q : Refusal} → Whole s l 0 made (Refused q) made' → ReadsInto s l out (refused_length q) out
+pub formula-refused : {s : Sort} {l made made' out : List ℕ} {q : Refusal} → Whole s l 0 made (Err q) made' → ReadsInto s l out (Err q) out
 unfolding read_formula
-formula-refused {s} {out = out} h = record { equal = ap (λ (o : Result (Tree s)). delivered (map (encode s) o) out) (ap (map (λ v. v.0)) (h.it 0)) }
+formula-refused {s} {out = out} h = record { equal = ap (λ (o : Result (Tree s) Refusal). delivered (map (encode s) o) out) (ap (map (λ v. v.0)) (h.it 0)) }
 
 -- Claims ---------------------------------------------------------------------------------------------------
 
 module _ {l : List ℕ} where
-  pub claim-open : {e : ℕ} → Lexes l 0 (Open e) → ClaimStarts l Missing
+  pub claim-not : (t : Answered) → Lexes l 0 t → ((b e : ℕ) → t ≡ Word b e → ⊥) → ClaimStarts l (Err NotAccepted)
   unfolding run
-  claim-open h = record { it = λ n K. ap (λ (ts : List Token). run ts n (claim ∷ K)) h.it.0 }
+  claim-not (Open e) h f = record { it = λ n K. ap (λ (ts : List Token). run ts n (claim ∷ K)) h.it.0 }
+  claim-not (Close e) h f = record { it = λ n K. ap (λ (ts : List Token). run ts n (claim ∷ K)) h.it.0 }
+  claim-not (Word b e) h f = absurd (f b e refl)
+  claim-not End h f = record { it = λ n K. ap (λ (ts : List Token). run ts n (claim ∷ K)) h.it }
 
-  pub claim-close : {e : ℕ} → Lexes l 0 (Close e) → ClaimStarts l Missing
+  pub claim-other : {b e : ℕ} → Lexes l 0 (Word b e) → same_bytes entails-word (between b e l) ≡ false → ClaimStarts l (Err NotAccepted)
   unfolding run
-  claim-close h = record { it = λ n K. ap (λ (ts : List Token). run ts n (claim ∷ K)) h.it.0 }
+  claim-other {e = e} h q = record { it = λ n K. ap (λ (ts : List Token). run ts n (claim ∷ K)) h.it.0 ∙ ap (λ (t : Bool). pick t (run (tokens (drop e l)) n K) (Err NotAccepted)) q }
 
-  pub claim-end : Lexes l 0 End → ClaimStarts l Missing
+  pub claim-word : {b e : ℕ} → Lexes l 0 (Word b e) → same_bytes entails-word (between b e l) ≡ true → ClaimStarts l (Ok e)
   unfolding run
-  claim-end h = record { it = λ n K. ap (λ (ts : List Token). run ts n (claim ∷ K)) h.it }
+  claim-word {e = e} h q = record { it = (λ n K. ap (λ (ts : List Token). run ts n (claim ∷ K)) h.it.0 ∙ ap (λ (t : Bool). pick t (run (tokens (drop e l)) n K) (Err NotAccepted)) q, h.it.3) }
 
-  pub claim-other : {b e : ℕ} → Lexes l 0 (Word b e) → same_bytes entails-word (between b e l) ≡ false → ClaimStarts l Missing
-  unfolding run
-  claim-other {e = e} h q = record { it = λ n K. ap (λ (ts : List Token). run ts n (claim ∷ K)) h.it.0 ∙ ap (λ (t : Bool). pick t (run (tokens (drop e l)) n K) (refused NotAccepted)) q }
-
-  pub claim-word : {b e : ℕ} → Lexes l 0 (Word b e) → same_bytes entails-word (between b e l) ≡ true → ClaimStarts l (Behind e)
-  unfolding run
-  claim-word {e = e} h q = record { it = (λ n K. ap (λ (ts : List Token). run ts n (claim ∷ K)) h.it.0 ∙ ap (λ (t : Bool). pick t (run (tokens (drop e l)) n K) (refused NotAccepted)) q, h.it.3) }
-
-pub second-found : {l b b' : List ℕ} {d : ℕ} {c e : Cursor} → Whole Faces l c.at b (Read e) b' → SecondFace l d c b (ReadClaim d c.to e.to) b'
-second-found h = record { it = (refl, refl, h.it) }
-
-pub faces-found : {l a a' b b' : List ℕ} {i d : ℕ} {c : Cursor} {r : Claim} → Found (single Faces) (part_at Faces l (fresh i)) l (fresh i) a c a' → SecondFace l d c b r b' → BothFaces l i d a b r a' b'
-faces-found {l} {i = i} {c = c} {r = ReadClaim e x y} f h =
-    let g = h.it.2 in
+pub faces-found : {l a a' b b' : List ℕ} {i d : ℕ} {c e : Cursor} → Found (single Faces) (part_at Faces l (fresh i)) l (fresh i) a c a' → Whole Faces l c.at b (Ok e) b' → BothFaces l i d a b (Ok (record { d = d; left = c.to; right = e.to })) a' b'
+faces-found {l} {i = i} {c = c} f h =
+    let g = h.it in
     record {
       it = (
-        h.it.0,
+        refl,
         record {
           left = f.thing;
           right = g.tree;
           reads = λ n. formula-part (tokens (drop i l)) n Faces (formula Faces ∷ []) ∙ f.reads (formula Faces ∷ []) ∙ ap (map (λ v. (f.thing, v))) (g.reads c.left);
           wrote-left = f.wrote;
           wrote_right = g.wrote;
-          upto_left = h.it.1 ∙ f.upto ∙ zero-add (length (encode Faces f.thing));
+          upto_left = f.upto ∙ zero-add (length (encode Faces f.thing));
           upto-right = g.upto;
           short-left = short-made Faces f.thing (omega (arith, f.count));
           short-right = g.short;
         },
       );
     }
-faces-found {l} {i = i} {c = c} {r = RefusedClaim q} f h = record { it = λ n. formula-part (tokens (drop i l)) n Faces (formula Faces ∷ []) ∙ f.reads (formula Faces ∷ []) ∙ ap (map (λ v. (f.thing, v))) (h.it c.left) }
 
-pub faces-refused : {l a a' b : List ℕ} {i d : ℕ} {q : Refusal} → Parses (single Faces) (part_at Faces l (fresh i)) l (fresh i) a (Refused q) a' → BothFaces l i d a b (RefusedClaim q) a' b
+pub second-refused : {l a a' b b' : List ℕ} {i d : ℕ} {c : Cursor} {q : Refusal} → Found (single Faces) (part_at Faces l (fresh i)) l (fresh i) a c a' → Whole Faces l c.at b (Err q) b' → BothFaces l i d a b (Err q) a' b'
+second-refused {l} {i = i} {c = c} f h = record { it = λ n. formula-part (tokens (drop i l)) n Faces (formula Faces ∷ []) ∙ f.reads (formula Faces ∷ []) ∙ ap (map (λ v. (f.thing, v))) (h.it c.left) }
+
+pub faces-refused : {l a a' b : List ℕ} {i d : ℕ} {q : Refusal} → Parses (single Faces) (part_at Faces l (fresh i)) l (fresh i) a (Err q) a' → BothFaces l i d a b (Err q) a' b
 faces-refused {l} {i = i} h = record { it = λ n. formula-part (tokens (drop i l)) n Faces (formula Faces ∷ []) ∙ h.it (formula Faces ∷ []) }
 
-pub claim-found : {l a a' b b' : List ℕ} {e d at : ℕ} {r : Claim} → ClaimStarts l (Behind e) → Numerals (number_at l e 255) l e 255 (ReadNumber d at) → BothFaces l at d a b r a' b' → WholeClaim l a b r a' b'
+pub claim-found : {l a a' b b' : List ℕ} {e : ℕ} {n : Numeral} {r : Result Claim Refusal} → ClaimStarts l (Ok e) → Numerals (number_at l e 255) l e 255 (Ok n) → BothFaces l n.end n.n a b r a' b' → WholeClaim l a b r a' b'
 unfolding read_claim
-claim-found {d = d} {r = ReadClaim k x y} s m h =
+claim-found {n = n} {r = Ok k} s m h =
     let g = h.it.1 in
     record {
       it = record {
         left = g.left;
         right = g.right;
         reads =
-            ap (map (λ v. record { dimensions = v.0; left = v.1.0; right = v.1.1.0 })) (s.it.0 0 (number max_bound ∷ formula Faces ∷ formula Faces ∷ []) ∙ m.it.reads 0 (formula Faces ∷ formula Faces ∷ []) ∙ ap (map (λ v. (d, v))) (g.reads 0))
-            ∙ ap (λ (d : ℕ). done (record { dimensions = d; left = g.left; right = g.right })) (sym h.it.0);
+            ap (map (λ v. record { dimensions = v.0; left = v.1.0; right = v.1.1.0 })) (s.it.0 0 (number max_bound ∷ formula Faces ∷ formula Faces ∷ []) ∙ m.it.reads 0 (formula Faces ∷ formula Faces ∷ []) ∙ ap (map (λ v. (n.n, v))) (g.reads 0))
+            ∙ ap (λ (d : ℕ). Ok (record { dimensions = d; left = g.left; right = g.right })) (sym h.it.0);
         wrote-left = g.wrote-left;
         wrote_right = g.wrote_right;
         upto_left = g.upto_left;
@@ -180,13 +163,13 @@ claim-found {d = d} {r = ReadClaim k x y} s m h =
         short-right = g.short-right;
       };
     }
-claim-found {d = d} {r = RefusedClaim q} s m h = record { it = ap (map (λ v. record { dimensions = v.0; left = v.1.0; right = v.1.1.0 })) (s.it.0 0 (number max_bound ∷ formula Faces ∷ formula Faces ∷ []) ∙ m.it.reads 0 (formula Faces ∷ formula Faces ∷ []) ∙ ap (map (λ v. (d, v))) (h.it 0)) }
+claim-found {n = n} {r = Err q} s m h = record { it = ap (map (λ v. record { dimensions = v.0; left = v.1.0; right = v.1.1.0 })) (s.it.0 0 (number max_bound ∷ formula Faces ∷ formula Faces ∷ []) ∙ m.it.reads 0 (formula Faces ∷ formula Faces ∷ []) ∙ ap (map (λ v. (n.n, v))) (h.it 0)) }
 
-pub claim-no-number : {l a b : List ℕ} {e : ℕ} {q : Refusal} → ClaimStarts l (Behind e) → Numerals (number_at l e 255) l e 255 (RefusedNumber q) → WholeClaim l a b (RefusedClaim q) a b
+pub claim-no-number : {l a b : List ℕ} {e : ℕ} {q : Refusal} → ClaimStarts l (Ok e) → Numerals (number_at l e 255) l e 255 (Err q) → WholeClaim l a b (Err q) a b
 unfolding read_claim
 claim-no-number s m = record { it = ap (map (λ v. record { dimensions = v.0; left = v.1.0; right = v.1.1.0 })) (s.it.0 0 (number max_bound ∷ formula Faces ∷ formula Faces ∷ []) ∙ m.it 0 (formula Faces ∷ formula Faces ∷ [])) }
 
-pub claim-no-word : {l a b : List ℕ} → ClaimStarts l Missing → WholeClaim l a b (RefusedClaim NotAccepted) a b
+pub claim-no-word : {l a b : List ℕ} {q : Refusal} → ClaimStarts l (Err q) → WholeClaim l a b (Err q) a b
 unfolding read_claim
 claim-no-word s = record { it = ap (map (λ v. record { dimensions = v.0; left = v.1.0; right = v.1.1.0 })) (s.it 0 (number max_bound ∷ formula Faces ∷ formula Faces ∷ [])) }
 
@@ -196,57 +179,26 @@ no-right false = refl
 
 module _ (d : ℕ) (x y a b : List ℕ) where
   picked : (t : Bool) → (leb (length x) (length a) && leb (length y) (length b)) ≡ t
-      → both_put d x y a b ≡ pick t (record { answer = done (record { dimensions = d; left = length x; right = length y }); left = sets a 0 x; right = sets b 0 y }) (record { answer = refused ShortOutput; left = a; right = b })
-  picked t e = ap (λ (t : Bool). pick t (record { answer = done (record { dimensions = d; left = length x; right = length y }); left = sets a 0 x; right = sets b 0 y }) (record { answer = refused ShortOutput; left = a; right = b })) e
+      → both_put d x y a b ≡ pick t (record { answer = Ok (record { d = d; left = length x; right = length y }); left = sets a 0 x; right = sets b 0 y }) (record { answer = Err ShortOutput; left = a; right = b })
+  picked t e = ap (λ (t : Bool). pick t (record { answer = Ok (record { d = d; left = length x; right = length y }); left = sets a 0 x; right = sets b 0 y }) (record { answer = Err ShortOutput; left = a; right = b })) e
 
-  pub both-short-left : length a < length x → DeliversBoth d x y a b (RefusedClaim ShortOutput) a b
+  pub both-short-left : length a < length x → DeliversBoth d x y a b (Err ShortOutput) a b
   both-short-left h = record { equal = picked false (ap (λ (t : Bool). t && leb (length y) (length b)) (lt-leb _ _ h)) }
 
-  pub both-short-right : length b < length y → DeliversBoth d x y a b (RefusedClaim ShortOutput) a b
+  pub both-short-right : length b < length y → DeliversBoth d x y a b (Err ShortOutput) a b
   both-short-right h = record { equal = picked false (ap (λ (t : Bool). leb (length x) (length a) && t) (lt-leb _ _ h) ∙ no-right (leb (length x) (length a))) }
 
-  pub both-put : {a' b' : List ℕ} → length x ≤ length a → length y ≤ length b → a' ≡ sets a 0 x → b' ≡ sets b 0 y → DeliversBoth d x y a b (ReadClaim d (length x) (length y)) a' b'
+  pub both-put : {a' b' : List ℕ} → length x ≤ length a → length y ≤ length b → a' ≡ sets a 0 x → b' ≡ sets b 0 y → DeliversBoth d x y a b (Ok (record { d = d; left = length x; right = length y })) a' b'
   both-put {a'} {b'} h k p q =
-      record { equal = picked true (ap₂ (λ (s t : Bool). s && t) (le-leb _ _ h) (le-leb _ _ k)) ∙ ap₂ (λ (u v : List ℕ). record { answer = done (record { dimensions = d; left = length x; right = length y }); left = u; right = v }) (sym p) (sym q) }
+      record { equal = picked true (ap₂ (λ (s t : Bool). s && t) (le-leb _ _ h) (le-leb _ _ k)) ∙ ap₂ (λ (u v : List ℕ). record { answer = Ok (record { d = d; left = length x; right = length y }); left = u; right = v }) (sym p) (sym q) }
 
-pub claim-delivered : {l a a' b b' m n m' n' : List ℕ} {d x y : ℕ} {r : Claim} → ClaimFound l m n d x y m' n' → length m ≡ 1024 → length n ≡ 1024 → DeliversBoth d (take x m') (take y n') a b r a' b' → ReadsClaim l a b r a' b'
+pub claim-delivered : {l a a' b b' m n m' n' : List ℕ} {d x y : ℕ} {r : Result Claim Refusal} → ClaimFound l m n d x y m' n' → length m ≡ 1024 → length n ≡ 1024 → DeliversBoth d (take x m') (take y n') a b r a' b' → ReadsClaim l a b r a' b'
 claim-delivered {a = a} {b = b} {m = m} {n} {m'} {n'} {d} {x} {y} f h k g =
     let u : List ℕ = encode Faces f.left in
     let v : List ℕ = encode Faces f.right in
     let p : take x m' ≡ u = ap (take x) f.wrote-left ∙ made-front u m f.upto_left (omega (arith, f.short-left, h)) in
     let q : take y n' ≡ v = ap (take y) f.wrote_right ∙ made-front v n f.upto-right (omega (arith, f.short-right, k)) in
-    record { equal = ap (λ (o : Result Claimed). both_delivered o a b) f.reads ∙ ap₂ (λ (u v : List ℕ). both_put d u v a b) (sym p) (sym q) ∙ g.equal }
+    record { equal = ap (λ (o : Result Claimed Refusal). both_delivered o a b) f.reads ∙ ap₂ (λ (u v : List ℕ). both_put d u v a b) (sym p) (sym q) ∙ g.equal }
 
-pub claim-refused : {l a b m n m' n' : List ℕ} {q : Refusal} → WholeClaim l m n (RefusedClaim q) m' n' → ReadsClaim l a b (RefusedClaim q) a b
-claim-refused {a = a} {b} h = record { equal = ap (λ (o : Result Claimed). both_delivered o a b) h.it }
-
--- What was answered, by its case.
-module _ {s : Sort} {l out out' : List ℕ} {i : ℕ} {r : Parsed} (h : Whole s l i out r out') where
-  pub whole_of : {c : Cursor} → r ≡ Read c → Whole s l i out (Read c) out'
-  whole_of e = subst (λ r. Whole s l i out r out') e h
-
-  pub whole-no : {q : Refusal} → r ≡ Refused q → Whole s l i out (Refused q) out'
-  whole-no e = subst (λ r. Whole s l i out r out') e h
-
-module _ {l a b a' b' : List ℕ} {r : Claim} (h : WholeClaim l a b r a' b') where
-  pub claim-of : {d x y : ℕ} → r ≡ ReadClaim d x y → WholeClaim l a b (ReadClaim d x y) a' b'
-  claim-of e = subst (λ r. WholeClaim l a b r a' b') e h
-
-  pub claim-no : {q : Refusal} → r ≡ RefusedClaim q → WholeClaim l a b (RefusedClaim q) a' b'
-  claim-no e = subst (λ r. WholeClaim l a b r a' b') e h
-
-pub starts-as : {l : List ℕ} {r t : Closed} → ClaimStarts l r → r ≡ t → ClaimStarts l t
-starts-as {l} h e = subst (ClaimStarts l) e h
-
--- What was read stands within the scratch slice.
-within : (x d : List ℕ) {d' : List ℕ} {m : ℕ} → m ≡ length x → length x ≤ 1022 → d' ≡ sets d 0 x → length d ≡ 1024 → (m ≤ 1022) × (m ≤ length d')
-within x d e h w k = let p = ap length w ∙ length-sets d 0 x in (omega (arith, e, h), omega (arith, e, h, p, k))
-
-pub whole-within : {s : Sort} {l out out' : List ℕ} {i : ℕ} {r : Parsed} {c : Cursor} → Whole s l i out r out' → r ≡ Read c → length out ≡ 1024 → (c.to ≤ 1022) × (c.to ≤ length out')
-whole-within {s} {out = out} h e n = let k = whole_of h e in within (encode s k.it.tree) out k.it.upto k.it.short k.it.wrote n
-
-pub left-within : {l a b a' b' : List ℕ} {r : Claim} {d x y : ℕ} → WholeClaim l a b r a' b' → r ≡ ReadClaim d x y → length a ≡ 1024 → (x ≤ 1022) × (x ≤ length a')
-left-within {a = a} h e n = let k = claim-of h e in within (encode Faces k.it.left) a k.it.upto_left k.it.short-left k.it.wrote-left n
-
-pub right-within : {l a b a' b' : List ℕ} {r : Claim} {d x y : ℕ} → WholeClaim l a b r a' b' → r ≡ ReadClaim d x y → length b ≡ 1024 → (y ≤ 1022) × (y ≤ length b')
-right-within {b = b} h e n = let k = claim-of h e in within (encode Faces k.it.right) b k.it.upto-right k.it.short-right k.it.wrote_right n
+pub claim-refused : {l a b m n m' n' : List ℕ} {q : Refusal} → WholeClaim l m n (Err q) m' n' → ReadsClaim l a b (Err q) a b
+claim-refused {a = a} {b} h = record { equal = ap (λ (o : Result Claimed Refusal). both_delivered o a b) h.it }

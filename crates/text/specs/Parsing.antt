@@ -1,26 +1,16 @@
 -- For private contracts: formulas at places of a text, and their bytes.
-use Rattle.std.specs.Prelude.{ℕ, suc, ◌+◌, ◌*◌, ◌≤◌, ◌<◌, max, ◌≡◌, Bool, true, false, not, List, ◌∷◌, ◌++◌, length, drop}
+use Rattle.std.specs.Prelude.{ℕ, suc, ◌+◌, ◌-◌, ◌*◌, ◌≤◌, ◌<◌, max, ◌≡◌, Result, Ok, Err, List, ◌∷◌, ◌++◌, set, length, drop}
 use Rattle.std.proofs.lemmas.List.Edits.{sets}
 use Rattle.formula.specs.declared.Sort.{Sort}
-use Rattle.formula.specs.declared.Kind.{Kind}
-use Rattle.formula.specs.declared.Kind.TheVariants.{Nullary, Literal, Unary, Binary, Unknown}
 use Rattle.formula.specs.Bytes.{Tree, dim_bytes, dim_width, encode, nodes, bound, max_bound}
-use Rattle.refusals.specs.Refusals.{Result, refused, map}
+use Rattle.refusals.specs.declared.Refusal.{Refusal}
+use Rattle.refusals.specs.declared.Refusal.TheVariants.{TooManyNodes}
+use Rattle.refusals.specs.Refusals.{map}
 use Rattle.text.specs.Tokens.{tokens}
 use Rattle.text.specs.Words.{node_named}
 use Rattle.text.specs.Reading.{Item, part, part_list, number, close, Values, bare_node, list_node, max_dim, run}
 use Rattle.text.specs.Scanning.{between}
 use Rattle.text.specs.declared.Cursor.{Cursor}
-use Rattle.text.specs.declared.Parsed.{Parsed}
-use Rattle.text.specs.declared.Parsed.TheVariants.{Read, Refused}
-
--- May it stand there: bare only a constant, first in a list any node?
-abbrev pub head_kind : Bool → Kind → Bool
-head_kind bare Nullary = true
-head_kind bare Literal = not bare
-head_kind bare Unary = not bare
-head_kind bare Binary = not bare
-head_kind bare Unknown = false
 
 -- What a function reads: a formula, two, or the dimension of a literal.
 pub data Shape : Type 0 where
@@ -57,12 +47,24 @@ pub record Ready (c : Cursor) (l out : List ℕ) : Type 0 where
 abbrev pub Behind : ℕ → Cursor → List ℕ → Type 0
 Behind b c l = (b < c.at) × (c.at ≤ length l)
 
+-- The cursor behind a head.
+abbrev pub headed : Cursor → Cursor
+headed c = record { at = c.at; to = c.to + 1; left = c.left - 1 }
+
+-- A head's kind byte was written, where a node is left.
+abbrev pub HeadsAs : ℕ → Cursor → List ℕ → Result Cursor Refusal → List ℕ → Type 0
+HeadsAs k c out (Ok d) out' = (d ≡ headed c) × (out' ≡ set out c.to k) × (0 < c.left)
+HeadsAs k c out (Err q) out' = (q ≡ TooManyNodes) × (c.left ≡ 0)
+
+pub record Heads (k : ℕ) (c : Cursor) (out : List ℕ) (r : Result Cursor Refusal) (out' : List ℕ) : Type 0 where
+  pub it : HeadsAs k c out r out'
+
 -- A reader of a shape, with whatever is expected behind it.
 abbrev pub ShapeReader : Shape → Type 0
-ShapeReader x = (K : List Item) → Result (Thing x × Values K)
+ShapeReader x = (K : List Item) → Result (Thing x × Values K) Refusal
 
 -- What follows the cursor.
-abbrev pub from : List ℕ → Cursor → (K : List Item) → Result (Values K)
+abbrev pub from : List ℕ → Cursor → (K : List Item) → Result (Values K) Refusal
 from l c K = run (tokens (drop c.at l)) c.left K
 
 -- A part from the cursor on; one whose list opened before; the last part of a list, both parts, or the dimension of one.
@@ -100,11 +102,11 @@ pub record Found (x : Shape) (F : ShapeReader x) (l : List ℕ) (c : Cursor) (ou
   pub low : bound_in x thing ≤ max_bound
 
 -- What the reader of a shape answers.
-abbrev pub ParsesAs : (x : Shape) → ShapeReader x → List ℕ → Cursor → List ℕ → Parsed → List ℕ → Type 0
-ParsesAs x F l c out (Read c') out' = Found x F l c out c' out'
-ParsesAs x F l c out (Refused q) out' = (K : List Item) → F K ≡ refused q
+abbrev pub ParsesAs : (x : Shape) → ShapeReader x → List ℕ → Cursor → List ℕ → Result Cursor Refusal → List ℕ → Type 0
+ParsesAs x F l c out (Ok c') out' = Found x F l c out c' out'
+ParsesAs x F l c out (Err q) out' = (K : List Item) → F K ≡ Err q
 
-pub record Parses (x : Shape) (F : ShapeReader x) (l : List ℕ) (c : Cursor) (out : List ℕ) (r : Parsed) (out' : List ℕ) : Type 0 where
+pub record Parses (x : Shape) (F : ShapeReader x) (l : List ℕ) (c : Cursor) (out : List ℕ) (r : Result Cursor Refusal) (out' : List ℕ) : Type 0 where
   pub it : ParsesAs x F l c out r out'
 
 -- The end of a list.
@@ -115,9 +117,9 @@ pub record EndFound (l : List ℕ) (c c' : Cursor) : Type 0 where
   pub same-to : c'.to ≡ c.to
   pub same_left : c'.left ≡ c.left
 
-abbrev pub EndsAs : List ℕ → Cursor → Parsed → Type 0
-EndsAs l c (Read c') = EndFound l c c'
-EndsAs l c (Refused q) = (K : List Item) → from l c (close ∷ K) ≡ refused q
+abbrev pub EndsAs : List ℕ → Cursor → Result Cursor Refusal → Type 0
+EndsAs l c (Ok c') = EndFound l c c'
+EndsAs l c (Err q) = (K : List Item) → from l c (close ∷ K) ≡ Err q
 
-pub record Ends (l : List ℕ) (c : Cursor) (r : Parsed) : Type 0 where
+pub record Ends (l : List ℕ) (c : Cursor) (r : Result Cursor Refusal) : Type 0 where
   pub it : EndsAs l c r

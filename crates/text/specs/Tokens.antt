@@ -1,26 +1,24 @@
 -- The tokens of a text (document 01, "Text and listing"): parentheses and runs of other bytes; bytes 32 and 10 separate.
 use Rattle.std.specs.Prelude.{ℕ, Bool, true, false, List, [], ◌∷◌, eqb}
 use Rattle.formula.specs.Answers.{pick}
+use Rattle.text.specs.declared.Class.{Class}
+use Rattle.text.specs.declared.Class.TheVariants.{Opening, Closing, Separator, Spelling}
 
 -- A token: a parenthesis, or a word.
 pub data Token : Type 0 where
   opening closing : Token
   word : List ℕ → Token
 
--- What a byte can be: a parenthesis, a separator, or a part of a word.
-pub data Class : Type 0 where
-  opens closes separates spells : Class
-
 -- What a byte is: ( opens, ) closes, a space and byte 10 separate, all others spell words.
 abbrev pub class_of : ℕ → Class
-class_of b = pick (eqb b 40) opens (pick (eqb b 41) closes (pick (eqb b 32) separates (pick (eqb b 10) separates spells)))
+class_of b = pick (eqb b 40) Opening (pick (eqb b 41) Closing (pick (eqb b 32) Separator (pick (eqb b 10) Separator Spelling)))
 
 -- Is it a part of a word?
 abbrev pub is_spelling : Class → Bool
-is_spelling opens = false
-is_spelling closes = false
-is_spelling separates = false
-is_spelling spells = true
+is_spelling Opening = false
+is_spelling Closing = false
+is_spelling Separator = false
+is_spelling Spelling = true
 
 -- Does the list begin inside a word?
 abbrev pub begins_word : List ℕ → Bool
@@ -36,11 +34,11 @@ longer b (word w ∷ ts) = word (b ∷ w) ∷ ts
 
 -- A byte in front of tokens; the flag tells whether a word goes on behind it.
 abbrev pub before : Class → ℕ → Bool → List Token → List Token
-before opens b goes_on ts = opening ∷ ts
-before closes b goes_on ts = closing ∷ ts
-before separates b goes_on ts = ts
-before spells b true ts = longer b ts
-before spells b false ts = word (b ∷ []) ∷ ts
+before Opening b goes_on ts = opening ∷ ts
+before Closing b goes_on ts = closing ∷ ts
+before Separator b goes_on ts = ts
+before Spelling b true ts = longer b ts
+before Spelling b false ts = word (b ∷ []) ∷ ts
 
 -- The tokens of a text.
 unfoldable pub tokens : List ℕ → List Token

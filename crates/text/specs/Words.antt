@@ -1,9 +1,9 @@
 -- The words of texts.
-use Rattle.std.specs.Prelude.{ℕ, suc, ◌+◌, List, [], ◌∷◌}
+use Rattle.std.specs.Prelude.{ℕ, ◌+◌, Option, None, Some, option_map, List, [], ◌∷◌, position}
 use Rattle.formula.specs.declared.Sort.{Sort}
 use Rattle.formula.specs.declared.Sort.TheVariants.{Faces, Intervals}
-use Rattle.formula.specs.Bytes.{Tree, Node, node_of}
-use Rattle.formula.specs.Answers.{pick, same_bytes}
+use Rattle.formula.specs.Bytes.{Tree, Node, bad, node_of}
+use Rattle.formula.specs.Answers.{same_bytes}
 use Rattle.calculus.specs.Table.{text_bytes}
 
 -- The names of the nodes of a sort, in the order of their kind bytes.
@@ -16,18 +16,18 @@ abbrev pub first_kind : Sort → ℕ
 first_kind Faces = 0
 first_kind Intervals = 16
 
--- The place of a word in a list of names; behind the last where it is none of them.
-abbrev pub place_of : List ℕ → List (List ℕ) → ℕ
-place_of w [] = 0
-place_of w (x ∷ xs) = pick (same_bytes x w) 0 (suc (place_of w xs))
+-- The kind byte that a word names in a sort.
+unfoldable pub kind_named : Sort → List ℕ → Option ℕ
+kind_named s w = option_map (λ k. first_kind s + k) (position (λ x. same_bytes x w) (names s))
 
--- The kind byte that a word names in a sort; a byte of no node where it names none.
-unfoldable pub kind_named : Sort → List ℕ → ℕ
-kind_named s w = first_kind s + place_of w (names s)
+-- The node of a kind byte, where there is one.
+abbrev pub node_if : (s : Sort) → Option ℕ → Node (Tree s)
+node_if s None = bad
+node_if s (Some k) = node_of s k
 
 -- The node that a word names.
 abbrev pub node_named : (s : Sort) → List ℕ → Node (Tree s)
-node_named s w = node_of s (kind_named s w)
+node_named s w = node_if s (kind_named s w)
 
 -- The words of unary numbers.
 abbrev pub zero_word : List ℕ

@@ -8,20 +8,23 @@ mod tokens;
 mod words;
 
 pub use reads::{read_claim, read_formula};
-use refusals::Refusal;
+pub use words::{first_kind, names};
 
-// The length of what was written into the output, or a refusal.
+// A claim: d and the lengths of its two faces.
 #[derive(Clone, Copy)]
-pub enum Length {
-    Bytes(usize),
-    Refused(Refusal),
+pub struct Claim {
+    pub d: usize,
+    pub left: usize,
+    pub right: usize,
 }
 
-// A claim: d and the lengths of its two faces, or a refusal.
-#[derive(Clone, Copy)]
-pub enum Claim {
-    Read(usize, usize, usize),
-    Refused(Refusal),
+// What a byte can be: a parenthesis, a separator, or a part of a word.
+#[derive(Clone, Copy, PartialEq, Eq)]
+pub enum Class {
+    Opening,
+    Closing,
+    Separator,
+    Spelling,
 }
 
 // What stands at a place of a text: a parenthesis with the place behind it, a word with its two ends, or nothing more.
@@ -33,18 +36,11 @@ pub enum Token {
     End,
 }
 
-// The place behind a closing parenthesis, where it stands.
-#[derive(Clone, Copy)]
-pub enum Closed {
-    Behind(usize),
-    Missing,
-}
-
 // A number and the place behind it.
 #[derive(Clone, Copy)]
-pub enum Numeral {
-    Read(usize, usize),
-    Refused(Refusal),
+pub struct Numeral {
+    n: usize,
+    end: usize,
 }
 
 // Where the reader is: in the text, in the output, and how many nodes the formula may still have.
@@ -53,11 +49,4 @@ pub struct Cursor {
     at: usize,
     to: usize,
     left: usize,
-}
-
-// Where the reader came to.
-#[derive(Clone, Copy)]
-pub enum Parsed {
-    Read(Cursor),
-    Refused(Refusal),
 }

@@ -11,57 +11,53 @@ use lib.ListN.{length}
 use lib.Seq.{sets}
 use Rattle.formula.specs.declared.Sort.{Sort}
 use Rattle.formula.specs.declared.Size.{Size}
-use Rattle.formula.specs.declared.Sized.{Sized}
-use Rattle.formula.specs.declared.Sized.TheVariants.{Fits, Refused as Refusing}
 use Rattle.formula.specs.Bytes.{encode, got, read}
-use Rattle.formula.specs.Answers.{pick, size_of, said_sized, operand}
+use Rattle.formula.specs.Answers.{pick, size_of, operand}
 use Rattle.formula.proofs.Reading.{read-encode}
 use Rattle.formula.proofs.Operands.{Fitted, sized-fits, sized-refused, Opened, opened, opened-limits}
 use Rattle.refusals.specs.declared.Refusal.{Refusal}
 use Rattle.refusals.specs.declared.Refusal.TheVariants.{ShortOutput}
-use Rattle.refusals.specs.Refusals.{refused, done, map}
+use Rattle.refusals.specs.Refusals.{map}
+use Rattle.std.specs.Prelude.{Result, Ok, Err}
 use Rattle.text.specs.Answers.{delivered}
 use Rattle.text.specs.Wholes.{Delivers}
-use Rattle.text.specs.declared.Length.{Length}
-use Rattle.text.specs.declared.Length.TheVariants.{Bytes, Refused}
 use Rattle.writing.specs.Texts.{formula_text}
 use Rattle.writing.specs.Answers.{WritesInto}
-use Rattle.writing.specs.Writing.{Wrote, FormulaFronts, FormulaPrints, Delivered}
-use Rattle.writing.specs.declared.Place.{Place}
+use Rattle.writing.specs.Writing.{Place, Wrote, FormulaFronts, FormulaPrints, Delivered}
 use Rattle.writing.proofs.TextLaws.{text-long}
 
 -- A text that was measured and does not fit, or was written.
 by-room : (x out : List ℕ) (t : Bool) → leb (length x) (length out) ≡ t
-    → delivered (done x) out ≡ pick t (record { answer = done (length x); output = sets out 0 x }) (record { answer = refused ShortOutput; output = out })
-by-room x out t e = ap (λ (t : Bool). pick t (record { answer = done (length x); output = sets out 0 x }) (record { answer = refused ShortOutput; output = out })) e
+    → delivered (Ok x) out ≡ pick t (record { answer = Ok (length x); output = sets out 0 x }) (record { answer = Err ShortOutput; output = out })
+by-room x out t e = ap (λ (t : Bool). pick t (record { answer = Ok (length x); output = sets out 0 x }) (record { answer = Err ShortOutput; output = out })) e
 
-pub short-delivers : {x z z' out out' : List ℕ} {n : ℕ} → Wrote x z 0 n z' → length out < n → out' ≡ out → Delivers x out (Refused ShortOutput) out'
+pub short-delivers : {x z z' out out' : List ℕ} {n : ℕ} → Wrote x z 0 n z' → length out < n → out' ≡ out → Delivers x out (Err ShortOutput) out'
 short-delivers {x} {out = out} w h e =
-    record { equal = by-room x out false (lt-leb (length x) (length out) (omega (arith, w.end))) ∙ ap (λ (o : List ℕ). record { answer = refused ShortOutput; output = o }) (sym e) }
+    record { equal = by-room x out false (lt-leb (length x) (length out) (omega (arith, w.end))) ∙ ap (λ (o : List ℕ). record { answer = Err ShortOutput; output = o }) (sym e) }
 
-pub wrote-delivers : {x z z' out out' : List ℕ} {n m : ℕ} → Wrote x z 0 n z' → n ≤ length out → Wrote x out 0 m out' → Delivers x out (Bytes m) out'
+pub wrote-delivers : {x z z' out out' : List ℕ} {n m : ℕ} → Wrote x z 0 n z' → n ≤ length out → Wrote x out 0 m out' → Delivers x out (Ok m) out'
 wrote-delivers {x} {out = out} {out'} {m = m} w h v =
     record {
       equal =
           by-room x out true (le-leb (length x) (length out) (omega (arith, w.end)))
-          ∙ ap (λ (n : ℕ). record { answer = done n; output = sets out 0 x }) (sym (v.end ∙ zero-add (length x)))
-          ∙ ap (λ (o : List ℕ). record { answer = done m; output = o }) (sym v.bytes);
+          ∙ ap (λ (n : ℕ). record { answer = Ok n; output = sets out 0 x }) (sym (v.end ∙ zero-add (length x)))
+          ∙ ap (λ (o : List ℕ). record { answer = Ok m; output = o }) (sym v.bytes);
     }
 
 -- The formula in front of the bytes.
-pub sized-short : {s : Sort} {l z z' out : List ℕ} {p : Place} → FormulaPrints s l z 0 p z' → length out < p.to → Delivered s l out (Refused ShortOutput) out
+pub sized-short : {s : Sort} {l z z' out : List ℕ} {p : Place} → FormulaPrints s l z 0 p z' → length out < p.to → Delivered s l out (Err ShortOutput) out
 sized-short g h = record { it = λ t m r. short-delivers (g.it t m r).wrote h refl }
 
-pub sized-wrote : {s : Sort} {l z z' out out' : List ℕ} {p q : Place} → FormulaPrints s l z 0 p z' → p.to ≤ length out → FormulaPrints s l out 0 q out' → Delivered s l out (Bytes q.to) out'
-sized-wrote g h k = record { it = λ t m r. wrote-delivers (g.it t m r).wrote h (k.it t m r).wrote }
+pub sized-wrote : {s : Sort} {l z z' out out' o : List ℕ} {p q : Place} → FormulaPrints s l z 0 p z' → p.to ≤ length out → FormulaPrints s l out 0 q out' → o ≡ out' → Delivered s l out (Ok q.to) o
+sized-wrote g h k e = record { it = λ t m r. let w = (k.it t m r).wrote in wrote-delivers (g.it t m r).wrote h (record { end = w.end; bytes = e ∙ w.bytes }) }
 
 -- Nothing but a formula within the limits is written.
-pub writes-refused : (s : Sort) (f out : List ℕ) {r : Sized} {q : Refusal} → said_sized r ≡ map (size_of s) (operand s f) → r ≡ Refusing q → WritesInto s f out (Refused q) out
-writes-refused s f out e i = record { equal = ap (λ x. delivered (map (formula_text s) x) out) (sized-refused s (operand s f) e i) }
+pub writes-refused : (s : Sort) (f out : List ℕ) {q : Refusal} → Err q ≡ map (size_of s) (operand s f) → WritesInto s f out (Err q) out
+writes-refused s f out e = record { equal = ap (λ x. delivered (map (formula_text s) x) out) (sized-refused s (operand s f) e) }
 
-module _ (s : Sort) (f : List ℕ) {r : Sized} {z : Size} (e : said_sized r ≡ map (size_of s) (operand s f)) (i : r ≡ Fits z) where
+module _ (s : Sort) (f : List ℕ) {z : Size} (e : Ok z ≡ map (size_of s) (operand s f)) where
   abbrev h : Fitted s (operand s f) z
-  h = sized-fits s (operand s f) e i
+  h = sized-fits s (operand s f) e
 
   abbrev o : Opened s f h.tree
   o = opened s f h.tree h.is
@@ -80,5 +76,5 @@ module _ (s : Sort) (f : List ℕ) {r : Sized} {z : Size} (e : said_sized r ≡ 
         room = record { fits = omega (arith, text-long s h.tree (omega (arith, k.1)), k.0) };
       }
 
-  pub writes-in : {out out' : List ℕ} {x : Length} → Delivered s f out x out' → WritesInto s f out x out'
+  pub writes-in : {out out' : List ℕ} {x : Result ℕ Refusal} → Delivered s f out x out' → WritesInto s f out x out'
   writes-in {out} d = record { equal = ap (λ x. delivered (map (formula_text s) x) out) h.is ∙ (d.it h.tree [] reads-front).equal }

@@ -1,7 +1,6 @@
 -- Texts of formulas, by their first byte.
-use Prim.Native.Nat.{ℕ, ◌+◌, ◌-◌, ◌*◌, ◌≤◌, ◌<◌}
+use Prim.Native.Nat.{ℕ, ◌+◌, ◌*◌, ◌≤◌, ◌<◌}
 use native.Mathlib.Omega.{arith}
-use native.Mathlib.Nat.{sub-zero}
 use mathlib.Core.Path.{◌≡◌, refl, sym, ap, ◌∙◌, subst}
 use mathlib.Core.List.{List, [], ◌∷◌, ◌++◌}
 use lib.ListN.{length, get_or, length-append}
@@ -14,10 +13,9 @@ use Rattle.formula.specs.Answers.{kind_by, kind_of}
 use Rattle.formula.proofs.Nodes.{EachNode, each-node, made_as, tree-ind}
 use Rattle.formula.proofs.Reading.{got-value, got-rest, nothing-got, read-nil, read-cons}
 use Rattle.calculus.specs.Table.{text_bytes}
-use Rattle.text.specs.Words.{names, first_kind}
+use Rattle.text.specs.Words.{first_kind}
 use Rattle.writing.specs.Texts.{items_text, list_text, unary_text, face_text, interval_text, formula_text}
-use Rattle.writing.specs.Writing.{Room, Wrote, node_name, Names}
-use Rattle.writing.proofs.WriteLaws.{wrote_as, room_as}
+use Rattle.writing.specs.Writing.{node_name, Names}
 use Rattle.writing.proofs.NumberLaws.{unary-length}
 
 -- The text of a formula that begins with a byte, by its node.
@@ -134,20 +132,3 @@ text-long s = tree-ind s (λ t. bound s t ≤ max_bound → length (formula_text
       let r : bound s y ≤ max_bound = omega (arith, k.top, h) in
       omega (arith, ap length (p.text x y), length-append (node_name s b) (items_text (formula_text s x ∷ formula_text s y ∷ [])), length-append (formula_text s x) (items_text (formula_text s y ∷ [])), length-append (formula_text s y) (41 ∷ []), i q, j r, p.short, k.count);
 })
-
--- The name of a node among the names of its sort.
-pub face-asks : {s : Sort} {b to : ℕ} → s ≡ Faces → Names s b → Room to (node_name s b) → (b < 6) × Room to (get_or (names Faces) b [])
-face-asks {s} {b} {to} e h r =
-    let n = subst (λ (s : Sort). Names s b) e h in
-    (omega (arith, n.below), room_as (ap (λ (k : ℕ). get_or (names Faces) k []) (sub-zero b)) (subst (λ (s : Sort). Room to (node_name s b)) e r))
-
-pub face-wrote : {s : Sort} (b : ℕ) {to r : ℕ} {out out' : List ℕ} → s ≡ Faces → Wrote (get_or (names Faces) b []) out to r out' → Wrote (node_name s b) out to r out'
-face-wrote b e w = wrote_as (ap (λ (k : ℕ). get_or (names Faces) k []) (sym (sub-zero b)) ∙ ap (λ (s : Sort). node_name s b) (sym e)) w
-
-pub interval-asks : {s : Sort} {b to : ℕ} → s ≡ Intervals → Names s b → Room to (node_name s b) → (16 ≤ b) × ((b - 16 < 6) × Room to (get_or (names Intervals) (b - 16) []))
-interval-asks {s} {b} {to} e h r =
-    let n = subst (λ (s : Sort). Names s b) e h in
-    (n.from, (omega (arith, n.below, n.from), subst (λ (s : Sort). Room to (node_name s b)) e r))
-
-pub interval-wrote : {s : Sort} (b : ℕ) {to r : ℕ} {out out' : List ℕ} → s ≡ Intervals → Wrote (get_or (names Intervals) (b - 16) []) out to r out' → Wrote (node_name s b) out to r out'
-interval-wrote b e w = wrote_as (ap (λ (s : Sort). node_name s b) (sym e)) w

@@ -1,15 +1,20 @@
 -- Texts at a place of an output: one behind another, and beyond its end.
-use Prim.Native.Nat.{ℕ, zero, suc, ◌+◌, ◌≤◌, ◌<◌}
+use Prim.Native.Nat.{ℕ, zero, suc, ◌+◌, ◌-◌, ◌≤◌, ◌<◌, min}
+use mathlib.Core.Bool.{Bool, true, false}
+use lib.Dec.{leb}
+use borrow.Author.Tests.{leb-true, leb-false}
+use Rattle.std.proofs.Math.Nat.{min-eq_left, min-eq_right}
 use native.Mathlib.Omega.{arith}
 use native.Mathlib.Nat.{add-zero, eq-or-lt_of_le}
 use native.Mathlib.Numerals.{add-one}
 use mathlib.Core.Path.{◌≡◌, refl, sym, ap, ap₂, ◌∙◌, subst}
 use mathlib.Core.Logic.{⊎_elim}
 use mathlib.Core.List.{List, [], ◌∷◌, ◌++◌}
-use lib.ListN.{length, get_or, take, set, length-append, length-set}
-use lib.Seq.{sets, length-sets, set_out}
-use Rattle.records.proofs.NumberLaws.{sets-append}
-use Rattle.writing.specs.Writing.{Room, Wrote, times}
+use lib.ListN.{length, take, set, length-append, length-set}
+use lib.Seq.{sets, length-sets, set_out, take_all}
+use Rattle.text.proofs.ParseLaws.{sets-append}
+use Rattle.writing.specs.Writing.{Room, Wrote, Writes, times}
+use Rattle.writing.specs.declared.Writer.{Writer}
 
 -- Beyond the end nothing is written.
 pub sets-beyond : (x d : List ℕ) (i : ℕ) → length d ≤ i → sets d i x ≡ d
@@ -22,6 +27,13 @@ sets-cut [] d i zero h = refl
 sets-cut [] d i (suc n) h = refl
 sets-cut (a ∷ x) d i zero h = sym (sets-beyond (a ∷ x) d i (omega arith))
 sets-cut (a ∷ x) d i (suc n) h = sets-cut x (set d i a) (suc i) n (omega (arith, length-set d i a))
+
+pub sets-fitting : (x d : List ℕ) (i : ℕ) → i ≤ length d → sets d i (take (min (length x) (length d - i)) x) ≡ sets d i x
+sets-fitting x d i h = go (leb (length x) (length d - i)) refl
+  where
+    go : (t : Bool) → leb (length x) (length d - i) ≡ t → sets d i (take (min (length x) (length d - i)) x) ≡ sets d i x
+    go true e = ap (λ n. sets d i (take n x)) (min-eq_left (leb-true _ _ e)) ∙ ap (sets d i) (take_all (length x) x (omega arith))
+    go false e = let k = leb-false (length x) (length d - i) e in ap (λ n. sets d i (take n x)) (min-eq_right (omega (arith, k))) ∙ sets-cut x d i (length d - i) (omega (arith, h))
 
 pub wrote-beyond : (x out : List ℕ) (to : ℕ) → length out ≤ to → Wrote x out to (to + length x) out
 wrote-beyond x out to h = record { end = refl; bytes = sym (sets-beyond x out to h) }
@@ -67,20 +79,23 @@ times-low (suc n) m x h =
 pub times-room : (n m : ℕ) (x : List ℕ) {to at : ℕ} → Room to (times n x) → m < n → at ≡ to + length (times m x) → Room at x
 times-room n m x h k e = record { fits = omega (arith, h.fits, times-low n m x k, e) }
 
--- One text of several, by its place.
-pub wrote_at : (xs : List (List ℕ)) {out out' : List ℕ} {to r j k : ℕ} → j ≡ k → Wrote (get_or xs k []) out to r out' → Wrote (get_or xs j []) out to r out'
-wrote_at xs e h = wrote_as (ap (λ (j : ℕ). get_or xs j []) (sym e)) h
-
-pub room_at : (xs : List (List ℕ)) {to j k : ℕ} → j ≡ k → Room to (get_or xs j []) → Room to (get_or xs k [])
-room_at xs e h = room_as (ap (λ (j : ℕ). get_or xs j []) e) h
-
 -- No text, and a text one time more.
 pub wrote_none : {out : List ℕ} {to : ℕ} → Wrote [] out to to out
 wrote_none {to = to} = record { end = sym (add-zero to); bytes = refl }
 
-pub times-wrote : (i : ℕ) {x out out' out'' : List ℕ} {to at r : ℕ} → Wrote (times i x) out to at out' → Wrote x out' at r out'' → Wrote (times (i + 1) x) out to r out''
-times-wrote i {x} h k = wrote_as (sym (times_more i x)) (wrote-next h k)
-
 -- The place behind, told in another way.
 pub wrote-to : {x out out' : List ℕ} {to r s : ℕ} → r ≡ s → Wrote x out to r out' → Wrote x out to s out'
 wrote-to e h = record { end = sym e ∙ h.end; bytes = h.bytes }
+
+-- The same of a writer, whose output is the same one throughout.
+pub writes-next : {x y : List ℕ} {w w₁ w₂ : Writer} → Writes x w w₁ → Writes y w₁ w₂ → Writes (x ++ y) w w₂
+writes-next h k = record { wrote = wrote-next h.wrote k.wrote; same = k.same ∙ h.same }
+
+pub writes-as : {x y : List ℕ} {w w' : Writer} → x ≡ y → Writes x w w' → Writes y w w'
+writes-as e h = record { wrote = wrote_as e h.wrote; same = h.same }
+
+pub writes-none : {w : Writer} → Writes [] w w
+writes-none = record { wrote = wrote_none; same = refl }
+
+pub writes-more : (i : ℕ) {x : List ℕ} {w w₁ w₂ : Writer} → Writes (times i x) w w₁ → Writes x w₁ w₂ → Writes (times (i + 1) x) w w₂
+writes-more i {x} h k = writes-as (sym (times_more i x)) (writes-next h k)

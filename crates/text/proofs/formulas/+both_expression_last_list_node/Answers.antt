@@ -1,52 +1,52 @@
-use Rattle.std.proofs.Common.{arith, sym, ◌∙◌}
-use Rattle.text.proofs.ScanLaws.{lexed}
-use Rattle.text.proofs.ParseLaws.{found_of, word-as, part-open, part-word, part-close, part_end, list-word, list_open, list_close, list-end, both-parses, ready-behind, node-refused, node-none, node-nullary, node-literal, node-unary, node-binary}
+use Rattle.std.proofs.lemmas.Result.{err_from_is_err_and}
+use Rattle.std.proofs.Common.{arith, sym}
+use Rattle.text.proofs.ParseLaws.{word-as, part-open, part-word, part-not, list-word, list-not, last-parses, last-refused, both-parses, both-refused, ready-behind, node-full, node-nullary, node-literal, node-unary, node-binary, node-unknown}
 use Rattle.text.proofs.formulas.+both_expression_last_list_node.Goals as goal
 
-pub both-last-requires : goal.both-last-requires
-both-last-requires t c = let h = found_of c.expression.ensures c.in-Read.is in (omega (arith, c.decreases, h.ahead), ready-behind c.requires h)
+pub both-returns : goal.both-returns
+both-returns t c = let h = c.in_ok-d.ensures in both-parses h.it c.last.ensures
 
-pub both-returns-in-Read : goal.both-returns-in-Read
-both-returns-in-Read t c = both-parses (found_of c.expression.ensures c.in-Read.is) c.last.ensures
+pub both-returns-in_err-d : goal.both-returns-in_err-d
+both-returns-in_err-d t c = let p = err_from_is_err_and c.from_residual.result c.from_residual.ensures.1 in rw (p.1, p.2) (both-refused c.in_err-d.ensures)
+
+pub last-returns : goal.last-returns
+last-returns t c = let h = c.in_ok-d.ensures in last-parses h.it c.end_list.ensures
+
+pub last-returns-in_err-d : goal.last-returns-in_err-d
+last-returns-in_err-d t c = let p = err_from_is_err_and c.from_residual.result c.from_residual.ensures.1 in rw (p.1, p.2) (last-refused c.in_err-d.ensures)
 
 pub expression-returns-in-Open : goal.expression-returns-in-Open
-expression-returns-in-Open t c = part-open (lexed c.token_at.ensures c.in-Open.is) c.list.ensures
-
-pub expression-returns-in-Close : goal.expression-returns-in-Close
-expression-returns-in-Close t c = part-close (lexed c.token_at.ensures c.in-Close.is)
+expression-returns-in-Open t c = part-open c.in-Open.ensures c.list.ensures
 
 pub expression-returns-in-Word : goal.expression-returns-in-Word
-expression-returns-in-Word t c = part-word (lexed c.token_at.ensures c.in-Word.is) c.bare.ensures
+expression-returns-in-Word t c = part-word c.in-Word.ensures c.bare.ensures
 
-pub expression-returns-in-End : goal.expression-returns-in-End
-expression-returns-in-End t c = part_end (lexed c.token_at.ensures c.in-End.is)
+pub expression-returns-in_default : goal.expression-returns-in_default
+expression-returns-in_default t c = part-not c.token_at.result c.token_at.ensures c.in_default.not-Open c.in_default.not-Word
 
-pub list-returns-in-Open : goal.list-returns-in-Open
-list-returns-in-Open t c = list_open (lexed c.token_at.ensures c.in-Open.is)
+pub list-returns : goal.list-returns
+list-returns t c = list-word c.in-Word.ensures c.node.ensures
 
-pub list-returns-in-Close : goal.list-returns-in-Close
-list-returns-in-Close t c = list_close (lexed c.token_at.ensures c.in-Close.is)
+pub list-returns-in_default : goal.list-returns-in_default
+list-returns-in_default t c = list-not c.token_at.result c.token_at.ensures c.in_default.not-Word
 
-pub list-returns-in-Word : goal.list-returns-in-Word
-list-returns-in-Word t c = list-word (lexed c.token_at.ensures c.in-Word.is) c.node.ensures
-
-pub list-returns-in-End : goal.list-returns-in-End
-list-returns-in-End t c = list-end (lexed c.token_at.ensures c.in-End.is)
-
-pub node-returns-then-not-is_head : goal.node-returns-then-not-is_head
-node-returns-then-not-is_head t c = node-refused (word-as c.kind_named-kind.ensures) (sym c.is_head.ensures ∙ c.if-not-is_head.true)
-
-pub node-returns-then-c-eq0 : goal.node-returns-then-c-eq0
-node-returns-then-c-eq0 t c = node-none (word-as c.kind_named-kind.ensures) (sym c.is_head.ensures ∙ c.if-not-is_head.false) c.if-c-eq0.true
+pub node-returns-in_err-d : goal.node-returns-in_err-d
+node-returns-in_err-d t c = let p = err_from_is_err_and c.from_residual.result c.from_residual.ensures.1 in rw (p.1, p.2) (node-full (word-as c.in-Some.ensures) c.in_err-d.ensures)
 
 pub node-returns-in-Nullary : goal.node-returns-in-Nullary
-node-returns-in-Nullary t c = node-nullary (word-as c.kind_named-kind.ensures) c.if-c-eq0.false (sym c.kind_of.ensures ∙ c.in-Nullary.is) c.end_list.ensures
+node-returns-in-Nullary t c = node-nullary (word-as c.in-Some.ensures) c.in_ok-d.ensures (sym c.in-Nullary.ensures) c.end_list.ensures
 
 pub node-returns-in-Literal : goal.node-returns-in-Literal
-node-returns-in-Literal t c = node-literal (word-as c.kind_named-kind.ensures) c.if-c-eq0.false (sym c.kind_of.ensures ∙ c.in-Literal.is) c.literal.ensures
+node-returns-in-Literal t c = node-literal (word-as c.in-Some.ensures) c.in_ok-d.ensures (sym c.in-Literal.ensures) c.literal.ensures
 
 pub node-returns-in-Unary : goal.node-returns-in-Unary
-node-returns-in-Unary t c = node-unary (word-as c.kind_named-kind.ensures) c.if-c-eq0.false (sym c.kind_of.ensures ∙ c.in-Unary.is) c.last.ensures
+node-returns-in-Unary t c = node-unary (word-as c.in-Some.ensures) c.in_ok-d.ensures (sym c.in-Unary.ensures) c.last.ensures
 
 pub node-returns-in-Binary : goal.node-returns-in-Binary
-node-returns-in-Binary t c = node-binary (word-as c.kind_named-kind.ensures) c.if-c-eq0.false (sym c.kind_of.ensures ∙ c.in-Binary.is) c.both.ensures
+node-returns-in-Binary t c = node-binary (word-as c.in-Some.ensures) c.in_ok-d.ensures (sym c.in-Binary.ensures) c.both.ensures
+
+pub node-returns-in-Unknown : goal.node-returns-in-Unknown
+node-returns-in-Unknown t c = node-unknown (word-as c.in-Some.ensures) (sym c.in-Unknown.ensures)
+
+pub both-last-requires : goal.both-last-requires
+both-last-requires t c = let h = c.in_ok-d.ensures in (omega (arith, c.decreases, h.it.ahead), ready-behind c.requires h.it)

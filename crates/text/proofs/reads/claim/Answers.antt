@@ -1,19 +1,12 @@
-use native.Mathlib.Omega.{arith}
-use Rattle.text.proofs.ReadLaws.{numeral-of, numeral-no}
-use Rattle.text.proofs.WholeLaws.{starts-as, claim-found, claim-no-number, claim-no-word}
+use Rattle.std.proofs.lemmas.Result.{err_from_is_err_and}
+use Rattle.text.proofs.WholeLaws.{claim-found, claim-no-number, claim-no-word}
 use Rattle.text.proofs.reads.claim.Goals as goal
 
-pub number-requires : goal.number-requires
-number-requires c = ((starts-as c.claim_word.ensures c.in-Behind.is).it.1, omega arith)
+pub returns : goal.returns
+returns c = claim-found c.in_ok-at.ensures c.in_ok-d.ensures c.both_faces.ensures
 
-pub both_faces-requires : goal.both_faces-requires
-both_faces-requires c = ((numeral-of c.number.ensures c.in-Read.is).it.inside, c.requires.0, c.requires.1)
+pub returns-in_err-at : goal.returns-in_err-at
+returns-in_err-at c = let p = err_from_is_err_and c.from_residual.result c.from_residual.ensures.1 in rw (p.1, p.2) (claim-no-word c.in_err-at.ensures)
 
-pub returns-in-Read : goal.returns-in-Read
-returns-in-Read c = claim-found (starts-as c.claim_word.ensures c.in-Behind.is) (numeral-of c.number.ensures c.in-Read.is) c.both_faces.ensures
-
-pub returns-in-Refused : goal.returns-in-Refused
-returns-in-Refused c = claim-no-number (starts-as c.claim_word.ensures c.in-Behind.is) (numeral-no c.number.ensures c.in-Refused.is)
-
-pub returns-in-Missing : goal.returns-in-Missing
-returns-in-Missing c = claim-no-word (starts-as c.claim_word.ensures c.in-Missing.is)
+pub returns-in_err-d : goal.returns-in_err-d
+returns-in_err-d c = let p = err_from_is_err_and c.from_residual-in_err-d.result c.from_residual-in_err-d.ensures.1 in rw (p.1, p.2) (claim-no-number c.in_ok-at.ensures c.in_err-d.ensures)

@@ -1,25 +1,19 @@
-use mathlib.Core.Path.{refl, sym, ◌∙◌}
-use native.Mathlib.Omega.{arith}
-use Rattle.text.proofs.ScanLaws.{span-next, span-stop, span-end}
+use Rattle.std.proofs.Common.{◌≡◌, ◌+◌, sym, ap, ◌∙◌, arith, rules, tests, drop, length, length-drop}
+use Rattle.std.specs.Prelude.{position}
+use Rattle.std.proofs.lemmas.Iterator.{YieldsList-from_slice}
+use Rattle.std.proofs.lemmas.Iterator.Search.{position_from_yields_List}
+use Rattle.std.proofs.lemmas.Slice.{between_to_end}
+use Rattle.text.proofs.ScanLaws.{other, span-found, span-none}
+use Rattle.text.proofs.tokens.span.Goals.{After-position}
 use Rattle.text.proofs.tokens.span.Goals as goal
 
-pub loop-i-init : goal.loop-i-init
-loop-i-init c = (c.requires, refl)
+found : (c : After-position) → c.position.result ≡ position (λ b. other c.args.class b) (drop c.args.from c.args.text.now)
+found c =
+    position_from_yields_List (λ b. other c.args.class b) _ _ c.position.result c.position.ensures.ran (YieldsList-from_slice _ c.iter.ensures.rest) (λ x b q k. search (rules, tests))
+    ∙ ap (position (λ b. other c.args.class b)) (between_to_end c.args.text.now c.args.from (length c.args.text.now) (omega arith))
 
-pub bounds-text-i : goal.bounds-text-i
-bounds-text-i c = omega arith
+pub returns-in-Some : goal.returns-in-Some
+returns-in-Some c = ap (λ n. c.args.from + n) (span-found c.args.class (drop c.args.from c.args.text.now) (sym (found (goal.at.returns-in-Some c).After-position) ∙ c.in-Some.is))
 
-pub returns-then-class_of-class : goal.returns-then-class_of-class
-returns-then-class_of-class c = let a = c.args in span-stop a.class a.text.now c.loop-i.i (omega arith) (λ e. c.if-class_of-class.true (c.class_of.ensures ∙ e)) ∙ c.loop-i.invariant.1
-
-pub overflow_add-i : goal.overflow_add-i
-overflow_add-i c = omega arith
-
-pub loop-i-smaller : goal.loop-i-smaller
-loop-i-smaller c = omega arith
-
-pub loop-i-preserved : goal.loop-i-preserved
-loop-i-preserved c = let a = c.args in (omega arith, span-next a.class a.text.now c.loop-i.i (omega arith) (sym c.class_of.ensures ∙ c.if-class_of-class.false) ∙ c.loop-i.invariant.1)
-
-pub returns : goal.returns
-returns c = let a = c.args in span-end a.class a.text.now c.loop-i.i (omega (arith, c.loop-i.invariant.0)) ∙ c.loop-i.invariant.1
+pub returns-in-None : goal.returns-in-None
+returns-in-None c = let p = span-none c.args.class (drop c.args.from c.args.text.now) (sym (found (goal.at.returns-in-None c).After-position) ∙ c.in-None.is) in omega (arith, p, c.requires, length-drop c.args.from c.args.text.now)

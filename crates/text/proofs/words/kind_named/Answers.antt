@@ -1,20 +1,21 @@
-use mathlib.Core.Path.{sym, ap, ◌∙◌}
-use native.Mathlib.Omega.{arith}
-use Rattle.formula.specs.declared.Sort.{Sort}
-use Rattle.formula.specs.declared.Sort.TheVariants.{Intervals}
-use Rattle.calculus.specs.Table.{text_bytes}
-use Rattle.text.specs.Words.{names, kind_named}
-use Rattle.text.proofs.WordLaws.{place-low, kind-face, kind-interval}
+use Rattle.std.proofs.Common.{◌≡◌, ◌+◌, sym, ap, ◌∙◌, rules, tests}
+use Rattle.std.specs.Prelude.{Some, position, option_map}
+use Rattle.std.proofs.lemmas.Iterator.{YieldsList-from_slice}
+use Rattle.std.proofs.lemmas.Iterator.Search.{position_from_yields_List}
+use Rattle.formula.specs.Answers.{same_bytes}
+use Rattle.formula.proofs.ByteLaws.{same-pointwise}
+use Rattle.text.specs.Words.{names, kind_named, first_kind}
+use Rattle.text.proofs.WordLaws.{position-map}
+use Rattle.text.proofs.words.kind_named.Goals.{After-position}
 use Rattle.text.proofs.words.kind_named.Goals as goal
 
-pub overflow_add-result : goal.overflow_add-result
-unfolding text_bytes
-overflow_add-result c = omega (arith, c.place-in-Intervals.ensures, place-low c.args.w.now (names Intervals))
+found : (c : After-position) → c.position.result ≡ position (λ x. same_bytes x c.args.w.now) (names c.args.sort)
+found c = position_from_yields_List (λ x. same_bytes x.now c.args.w.now) _ _ c.position.result c.position.ensures.ran (YieldsList-from_slice _ c.iter.ensures.rest) (λ x b q k. search (rules, tests, same-pointwise)) ∙ position-map (λ x. same_bytes x c.args.w.now) (λ x. x.now) _ ∙ ap (position (λ x. same_bytes x c.args.w.now)) c.names.ensures
 
-pub returns-in-Faces : goal.returns-in-Faces
-unfolding text_bytes
-returns-in-Faces c = kind-face c.args.w.now c.place.ensures ∙ ap (λ (s : Sort). kind_named s c.args.w.now) (sym c.in-Faces.is)
+pub returns-in_err-place : goal.returns-in_err-place
+unfolding kind_named
+returns-in_err-place c = c.from_residual.ensures ∙ ap (option_map (λ k. first_kind c.args.sort + k)) (sym c.in_err-place.was ∙ found (goal.at.returns-in_err-place c).After-position)
 
-pub returns-in-Intervals : goal.returns-in-Intervals
-unfolding text_bytes
-returns-in-Intervals c = kind-interval c.args.w.now c.place-in-Intervals.ensures ∙ ap (λ (s : Sort). kind_named s c.args.w.now) (sym c.in-Intervals.is)
+pub returns : goal.returns
+unfolding kind_named
+returns c = ap (λ n. Some (n + c.in_ok-place.place)) c.first_kind.ensures ∙ ap (option_map (λ k. first_kind c.args.sort + k)) (sym c.in_ok-place.was ∙ found (goal.at.returns c).After-position)
