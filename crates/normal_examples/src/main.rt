@@ -1,17 +1,18 @@
 // Normal forms of faces. tools/normal/cases.py writes the input, and says what is to be printed.
 #![tactic(auto)]
 
-use normal::Normalised;
+use formula::Size;
+use refusals::Refusal;
 use std::io;
 use std::io::{BufReader, BufWriter, Read, Write};
 
-fn tell<W: Write>(out: &mut W, a: Normalised) -> io::Result<()> {
+fn tell<W: Write>(out: &mut W, a: Result<Size, Refusal>) -> io::Result<()> {
     match a {
-        Normalised::Form(z) => {
+        Ok(z) => {
             stdio::text(out, b" length ")?;
             stdio::number(out, z.len)?;
         }
-        Normalised::Refused(e) => {
+        Err(e) => {
             stdio::text(out, b" refused ")?;
             stdio::number(out, refusals::number(e))?;
         }
