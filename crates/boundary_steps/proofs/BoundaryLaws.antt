@@ -21,9 +21,10 @@ use Rattle.calculus.specs.Rules.{Rule}
 use Rattle.calculus.specs.Emit.{Program, emit}
 use Rattle.calculus.specs.Calls.{bounds, emit_boundary}
 use Rattle.calculus.proofs.Growing.{Limited}
-use Rattle.steps.specs.declared.Ran.{Ran}
+use Rattle.std.specs.Prelude.{Result}
+use Rattle.steps.specs.declared.Stop.{Stop}
 use Rattle.steps.specs.declared.Paired.{Paired}
-use Rattle.steps.specs.Running.{Book, Runs, Emits}
+use Rattle.steps.specs.Running.{Ran, Book, Runs, Emits}
 use Rattle.steps.specs.Trees.{Is, Known}
 use Rattle.steps.specs.Walking.{StandsAt, tree_at, KnownAt, behind_at, span, Spans, inside_of, WalksBoth}
 use Rattle.boundary_steps.specs.Programs.{Sides, SidesAt, boundary_kind}
@@ -32,7 +33,7 @@ use Rattle.steps.proofs.TreeLaws.{View, a-lit, a_one, tree-of}
 use Rattle.steps.proofs.NodeLaws.{Law, AtLit, AtOne, AtTwo, at-lit, at_one}
 use Rattle.steps.proofs.ResultLaws.{Pairs}
 use Rattle.steps.proofs.PlaceLaws.{start, whole-at, whole_part, at-spans, between-part, EndAt, OneAt, TwoAt}
-use Rattle.steps.proofs.WalkLaws.{by_part, image-two, left-image, right-image, image-end, Beside, Ended}
+use Rattle.steps.proofs.WalkLaws.{by_part, both-moved-to, image-two, left-image, right-image, image-end, Beside, Ended}
 
 -- The program and the rule at each kind byte.
 pub boundary-laws : EachNode Intervals (Law Intervals emit_boundary bounds boundary_kind)
@@ -107,11 +108,11 @@ module _ {r zero one : List ℕ} {p q : Place} (k : KnownAt Intervals r p) (h : 
   ends-span i = (at-spans h.zeros i, at-spans h.ones (i ∙ same_end h))
 
   -- A dimension is emitted as a leaf is.
-  pub lit-both : {l l' : Book} {x : Paired} {i j m : ℕ} {e n : Place} → EndAt Intervals (tree_at Intervals r p) r p e (Lit e m) → n ≡ behind_at Faces zero q → Ended beside l i j e n x l'
+  pub lit-both : {l l' : Book} {x : Result Paired Stop} {i j m : ℕ} {e n : Place} → EndAt Intervals (tree_at Intervals r p) r p e (Lit e m) → n ≡ behind_at Faces zero q → Ended beside l i j e n x l'
       → WalksBoth l (emit_boundary (tree_at Intervals r p)) (behind_at Intervals r p) (behind_at Faces zero q) x l'
-  lit-both {e = e} {n} v g w =
+  lit-both {x = x} {e = e} {n} v g w =
       let y = between-part k refl v.end in
-      record { runs = lit-runs (tree_at Intervals r p) v.view beside.limited (beside.operands (span p.at e r) n y g) (by_part boundary_kind y w.0); moved = λ z. (w.1 ∙ v.end, w.2 ∙ g) }
+      record { runs = lit-runs (tree_at Intervals r p) v.view beside.limited (beside.operands (span p.at e r) n y g) (by_part boundary_kind y w.0); moved = both-moved-to x v.end g w.1 }
 
   swapped : {m : Place} (e : End) → OneAt Intervals (tree_at Intervals r p) r p m → boundary e (tree_at Intervals r p) ≡ boundary (other e) (tree_at Intervals r m)
   swapped e v = swap-by e (tree_at Intervals r p) v.view ∙ ap (λ (y : List ℕ). boundary (other e) (tree_of Intervals y)) (sym v.part)

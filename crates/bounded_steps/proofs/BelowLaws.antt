@@ -1,8 +1,7 @@
 -- The emitter of face and interval.
-use Prim.Native.Nat.{ℕ, ◌+◌, ◌-◌, ◌≤◌, ◌<◌}
+use Prim.Native.Nat.{ℕ, ◌+◌, ◌≤◌, ◌<◌}
 use native.Mathlib.Omega.{arith}
 use mathlib.Core.Path.{◌≡◌, refl, sym, ap, ◌∙◌, subst}
-use mathlib.Core.Bool.{true, false}
 use mathlib.Core.List.{List, [], ◌∷◌, ◌++◌}
 use lib.ListN.{get_or}
 use Rattle.formula.specs.declared.Sort.{Sort}
@@ -19,12 +18,13 @@ use Rattle.calculus.specs.Record.{operand_bytes}
 use Rattle.calculus.specs.Emit.{Program, emit, ◌>>=◌}
 use Rattle.calculus.specs.Calls.{less, emit_comparison, emit_interval, emit_face}
 use Rattle.calculus.proofs.Growing.{Limited}
-use Rattle.steps.specs.declared.Ran.{Ran}
+use Rattle.std.specs.Prelude.{Result, Ok, Err, IfOk}
+use Rattle.steps.specs.declared.Stop.{Stop}
 use Rattle.steps.specs.declared.Walked.{Walked}
-use Rattle.steps.specs.Walking.{tree_at, KnownAt, behind_at, span, Walks}
+use Rattle.steps.specs.Walking.{tree_at, KnownAt, behind_at, span, walk_ran, Walks}
 use Rattle.steps.proofs.PlaceLaws.{between-part, EndAt, OneAt, TwoAt}
-use Rattle.steps.proofs.WalkLaws.{not-both, leaf-at, one-at-stop, one-at-runs, two-at-stop, two-at-stop-right, two-at-runs, two-end}
-use Rattle.steps.specs.Running.{Book, done_by, step_by, Runs, Emits}
+use Rattle.steps.proofs.WalkLaws.{moved-to, leaf-at, one-at-stop, one-at-runs, two-at-stop, two-at-stop-right, two-at-runs, two-end}
+use Rattle.steps.specs.Running.{Ran, Book, Runs, Emits}
 use Rattle.steps.specs.Trees.{Is, Known, Literal}
 use Rattle.formula.specs.Answers.{part_at, tree_of}
 use Rattle.bounded_steps.specs.Programs.{bounded, emit_bounded, bounded_kind}
@@ -73,16 +73,15 @@ bounded-bytes Faces d t l h = ap (λ (x : List ℕ). dim_bytes d ++ x) (sym h.by
 bounded-bytes Intervals d t l h = ap (λ (x : List ℕ). dim_bytes d ++ x) (sym h.bytes)
 
 -- A dimension: the comparison, then its step.
-pub dimension-stop : {l l₁ : Book} {r : Ran} (d n : ℕ) → Runs l (emit_comparison less n d) r l₁ → done_by r ≡ false → Runs l (emit_interval d (dim n)) r l₁
+pub dimension-stop : {l l₁ : Book} {e : Stop} (d n : ℕ) → Runs l (emit_comparison less n d) (Err e) l₁ → Runs l (emit_interval d (dim n)) (Err e) l₁
 unfolding emit_interval
-dimension-stop d n h e = runs-stop (λ i. emit 7 (i ∷ []) (interval d (dim n))) h e
+dimension-stop d n h = runs-stop (λ i. emit 7 (i ∷ []) (interval d (dim n))) h refl
 
-pub dimension-runs : {l l₁ l₂ : Book} {r c : Ran} {i : ℕ} (d n : ℕ) → d ≤ 255 → n < 255 → Runs l (emit_comparison less n d) r l₁ → done_by r ≡ true → i ≡ step_by r
-    → Emits l₁ 7 (i ∷ 0 ∷ 0 ∷ []) (dim_bytes d ++ ((18 ∷ []) ++ dim_bytes n)) c l₂ → Runs l (emit_interval d (dim n)) c l₂
+pub dimension-runs : {l l₁ l₂ : Book} {c : Ran} {i : ℕ} (d n : ℕ) → d ≤ 255 → n < 255 → Runs l (emit_comparison less n d) (Ok i) l₁
+    → Emits l₁ 7 (i ∷ 0 ∷ 0 ∷ []) (dim_bytes d ++ (18 ∷ dim_bytes n)) c l₂ → Runs l (emit_interval d (dim n)) c l₂
 unfolding emit_interval encode_interval nodes_interval bound_interval
-dimension-runs {l₁} {l₂} {r} {c} d n a b h e f g =
-    let g' : Emits l₁ 7 (step_by r ∷ 0 ∷ 0 ∷ []) (dim_bytes d ++ ((18 ∷ []) ++ dim_bytes n)) c l₂ = subst (λ (i : ℕ). Emits l₁ 7 (i ∷ 0 ∷ 0 ∷ []) (dim_bytes d ++ ((18 ∷ []) ++ dim_bytes n)) c l₂) f g in
-    runs-next (λ i. emit 7 (i ∷ []) (interval d (dim n))) h e (emits-by g' Rules.interval-dim (step_by r ∷ []) refl (runs-below h e, tt) (a, ((omega arith, omega arith), tt)) refl refl)
+dimension-runs {i = i} d n a b h g =
+    runs-next (λ i. emit 7 (i ∷ []) (interval d (dim n))) h refl (emits-by g Rules.interval-dim (i ∷ []) refl (runs-below h refl, tt) (a, ((omega arith, omega arith), tt)) refl refl)
 
 -- A literal of a face stands on its dimension.
 LitLaw : ℕ → ℕ → (ℕ → Face) → Type 0
@@ -103,38 +102,30 @@ dim-at b g e = at-lit Intervals (λ b g. (n : ℕ) → g n ≡ dim n) (record { 
 pub literal-interval : {l l₁ : Book} {f : List ℕ} {r : Ran} {q : Place} {n : ℕ} (d : ℕ) (t : Interval) → View Intervals f t (Lit q n) → Runs l (emit_interval d (dim n)) r l₁ → Runs l (emit_interval d t) r l₁
 literal-interval {l} {l₁} {r = r} d t (a-lit b n g e i) h = subst (λ (x : Interval). Runs l (emit_interval d x) r l₁) (sym (dim-at b g e n)) h
 
-pub literal-stop : {l l₁ : Book} {f : List ℕ} {r : Ran} {q : Place} {n : ℕ} (s : Sort) (d : ℕ) (t : Tree s) → View s f t (Lit q n) → Runs l (emit_interval d (dim n)) r l₁ → done_by r ≡ false → Runs l (emit_bounded s d t) r l₁
-literal-stop {l} {l₁} {r = r} Faces d t (a-lit b n g e i) h c = subst (λ (p : Program). Runs l p r l₁) (sym (lit-at d b g e n).0) (runs-stop (λ i. emit (b + 11) (i ∷ []) (face d (g n))) h c)
-literal-stop Intervals d t v h c = literal-interval d t v h
+pub literal-stop : {l l₁ : Book} {f : List ℕ} {x : Stop} {q : Place} {n : ℕ} (s : Sort) (d : ℕ) (t : Tree s) → View s f t (Lit q n) → Runs l (emit_interval d (dim n)) (Err x) l₁ → Runs l (emit_bounded s d t) (Err x) l₁
+literal-stop {l} {l₁} {x = x} Faces d t (a-lit b n g e i) h = subst (λ (p : Program). Runs l p (Err x) l₁) (sym (lit-at d b g e n).0) (runs-stop (λ i. emit (b + 11) (i ∷ []) (face d (g n))) h refl)
+literal-stop Intervals d t v h = literal-interval d t v h
 
-pub literal-face : {l l₁ l₂ : Book} {f : List ℕ} {r c : Ran} {q : Place} {n i k z : ℕ} (d : ℕ) (t : Face) → View Faces f t (Lit q n) → Is Faces t f → d ≤ 255 → Runs l (emit_interval d (dim n)) r l₁ → done_by r ≡ true → i ≡ step_by r
+pub literal-face : {l l₁ l₂ : Book} {f : List ℕ} {c : Ran} {q : Place} {n i k z : ℕ} (d : ℕ) (t : Face) → View Faces f t (Lit q n) → Is Faces t f → d ≤ 255 → Runs l (emit_interval d (dim n)) (Ok i) l₁
     → Emits l₁ (bounded_kind Faces (get_or f 0 0)) (i ∷ k ∷ z ∷ []) (dim_bytes d ++ f) c l₂ → Runs l (emit_face d t) c l₂
-literal-face {l} {l₁} {l₂} {f} {r} {c} {i = i} {k} {z} d t (a-lit b n g e j) is a h p o w =
-    let w₁ : Emits l₁ (b + 11) (i ∷ k ∷ z ∷ []) (dim_bytes d ++ f) c l₂ = subst (λ (m : ℕ). Emits l₁ (m + 11) (i ∷ k ∷ z ∷ []) (dim_bytes d ++ f) c l₂) (ap (λ (x : List ℕ). get_or x 0 0) j) w in
-    let w₂ : Emits l₁ (b + 11) (step_by r ∷ k ∷ z ∷ []) (dim_bytes d ++ f) c l₂ = subst (λ (m : ℕ). Emits l₁ (b + 11) (m ∷ k ∷ z ∷ []) (dim_bytes d ++ f) c l₂) o w₁ in
+literal-face {l} {l₁} {l₂} {f} {c} {i = i} {k} {z} d t (a-lit b n g e j) is a h w =
+    let w' : Emits l₁ (b + 11) (i ∷ k ∷ z ∷ []) (dim_bytes d ++ f) c l₂ = subst (λ (m : ℕ). Emits l₁ (m + 11) (i ∷ k ∷ z ∷ []) (dim_bytes d ++ f) c l₂) (ap (λ (x : List ℕ). get_or x 0 0) j) w in
     subst (λ (m : Program). Runs l m c l₂) (sym (lit-at d b g e n).0)
-    (runs-next (λ i. emit (b + 11) (i ∷ []) (face d (g n))) h p (emits-by w₂ (lit-at d b g e n).1 (step_by r ∷ []) refl (runs-below h p, tt) (bounded-limited Faces d (g n) f is a) refl (bounded-bytes Faces d (g n) f is)))
-
--- The kind of a byte.
-pub kind-low : (s : Sort) (b : ℕ) → s ≡ Intervals → b < 11 → 0 ≡ bounded_kind s b
-kind-low s b e h = let z : 0 ≡ b - 11 = omega arith in z ∙ ap (λ (x : Sort). bounded_kind x b) (sym e)
-
-pub kind-as : (s x : Sort) (b : ℕ) → s ≡ x → bounded_kind x b ≡ bounded_kind s b
-kind-as s x b e = ap (λ (y : Sort). bounded_kind y b) (sym e)
+    (runs-next (λ i. emit (b + 11) (i ∷ []) (face d (g n))) h refl (emits-by w' (lit-at d b g e n).1 (i ∷ []) refl (runs-below h refl, tt) (bounded-limited Faces d (g n) f is a) refl (bounded-bytes Faces d (g n) f is)))
 
 -- The same where the sort is told.
-pub literal-of-face : {l l₁ l₂ : Book} {f : List ℕ} {r c : Ran} {n i k z : ℕ} (s : Sort) (d : ℕ) → s ≡ Faces → Known s f → Literal s n f → d ≤ 255 → Runs l (emit_interval d (dim n)) r l₁ → done_by r ≡ true → i ≡ step_by r
+pub literal-of-face : {l l₁ l₂ : Book} {f : List ℕ} {c : Ran} {n i k z : ℕ} (s : Sort) (d : ℕ) → s ≡ Faces → Known s f → Literal s n f → d ≤ 255 → Runs l (emit_interval d (dim n)) (Ok i) l₁
     → Emits l₁ (bounded_kind Faces (get_or f 0 0)) (i ∷ k ∷ z ∷ []) (dim_bytes d ++ f) c l₂ → Runs l (emit_bounded s d (tree_of s f)) c l₂
-literal-of-face {f = f} Faces d e h x a k p o w = literal-face d (tree_of Faces f) (literal-view h x) h a k p o w
-literal-of-face Intervals d e h x a k p o w = absurd (let z : ◌≡◌ {A = ℕ} 0 1 = cc in omega arith)
+literal-of-face {f = f} Faces d e h x a k w = literal-face d (tree_of Faces f) (literal-view h x) h a k w
+literal-of-face Intervals d e h x a k w = absurd (let z : ◌≡◌ {A = ℕ} 0 1 = cc in omega arith)
 
 pub literal-of-interval : {l l₁ : Book} {f : List ℕ} {r : Ran} {n : ℕ} (s : Sort) (d : ℕ) → s ≡ Intervals → Known s f → Literal s n f → Runs l (emit_interval d (dim n)) r l₁ → Runs l (emit_bounded s d (tree_of s f)) r l₁
 literal-of-interval Faces d e h x k = absurd (let z : ◌≡◌ {A = ℕ} 0 1 = cc in omega arith)
 literal-of-interval {f = f} Intervals d e h x k = literal-interval d (tree_of Intervals f) (literal-view h x) k
 
 -- The step of the formula from `at` on, which ends at m.
-abbrev pub Whole : Sort → ℕ → List ℕ → ℕ → Book → ℕ → ℕ → Place → Walked → Book → Type 0
-Whole s d f at l i k m r l' = Emits l (bounded_kind s (get_or (span at m f) 0 0)) (i ∷ k ∷ 0 ∷ []) (dim_bytes d ++ span at m f) r.ran l' × (r.place ≡ m)
+abbrev pub Whole : Sort → ℕ → List ℕ → ℕ → Book → ℕ → ℕ → Place → Result Walked Stop → Book → Type 0
+Whole s d f at l i k m r l' = Emits l (bounded_kind s (get_or (span at m f) 0 0)) (i ∷ k ∷ 0 ∷ []) (dim_bytes d ++ span at m f) (walk_ran r) l' × IfOk r (λ w. w.place ≡ m)
 
 -- The formula at a place, and the place behind it.
 module _ (s : Sort) (d : ℕ) {f : List ℕ} {p : Place} (b : d ≤ 255) (h : KnownAt s f p) where
@@ -145,35 +136,41 @@ module _ (s : Sort) (d : ℕ) {f : List ℕ} {p : Place} (b : d ≤ 255) (h : Kn
   here-bytes {w} e = bounded-bytes s d (tree_at s f p) w (subst (Is s (tree_at s f p)) (sym e) h.is)
 
   module _ {q : Place} where
-    pub leaf-walks : {l l' : Book} {r : Walked} {i k : ℕ} → EndAt s (tree_at s f p) f p q (Leaf q) → Whole s d f p.at l i k q r l' → Walks l (emit_bounded s d (tree_at s f p)) (behind_at s f p) r l'
-    leaf-walks v w =
+    pub leaf-walks : {l l' : Book} {r : Result Walked Stop} {i k : ℕ} → EndAt s (tree_at s f p) f p q (Leaf q) → Whole s d f p.at l i k q r l' → Walks l (emit_bounded s d (tree_at s f p)) (behind_at s f p) r l'
+    leaf-walks {r = r} v w =
         let e = between-part h refl v.end in
-        record { runs = leaf-at s (emit_bounded s d) (bounded s d) (bounded_kind s) (bounded-laws s d) v e here-limited (here-bytes e) w.0; moved = λ x. w.1 ∙ v.end }
+        record { runs = leaf-at s (emit_bounded s d) (bounded s d) (bounded_kind s) (bounded-laws s d) v e here-limited (here-bytes e) w.0; moved = moved-to r v.end w.1 }
 
-    pub literal-walks : {l l' : Book} {r : Ran} {n : ℕ} {w : List ℕ} → EndAt s (tree_at s f p) f p q (Lit q n) → w ≡ span p.at q f → Runs l (emit_bounded s d (tree_of s w)) r l'
-        → Walks l (emit_bounded s d (tree_at s f p)) (behind_at s f p) (record { ran = r; place = q }) l'
-    literal-walks v e k = record { runs = part-runs s (emit_bounded s d) (between-part h e v.end) k; moved = λ x. v.end }
+    pub literal-stops : {l l' : Book} {x : Stop} {n : ℕ} {w : List ℕ} → EndAt s (tree_at s f p) f p q (Lit q n) → w ≡ span p.at q f → Runs l (emit_bounded s d (tree_of s w)) (Err x) l'
+        → Walks l (emit_bounded s d (tree_at s f p)) (behind_at s f p) (Err x) l'
+    literal-stops v e k = record { runs = part-runs s (emit_bounded s d) (between-part h e v.end) k; moved = tt }
 
-    module _ {l l₁ : Book} {a : Walked} (v : OneAt s (tree_at s f p) f p q) (k : Walks l (emit_bounded s d (tree_at s f q)) (behind_at s f q) a l₁) where
-      pub one-walks-stop : done_by a.ran ≡ false → Walks l (emit_bounded s d (tree_at s f p)) (behind_at s f p) a l₁
-      one-walks-stop g = record { runs = one-at-stop s (emit_bounded s d) (bounded s d) (bounded_kind s) (bounded-laws s d) v k.runs g; moved = λ x. k.moved x ∙ v.end }
+    pub literal-walks : {l l' : Book} {i n : ℕ} {w : List ℕ} → EndAt s (tree_at s f p) f p q (Lit q n) → w ≡ span p.at q f → Runs l (emit_bounded s d (tree_of s w)) (Ok i) l'
+        → Walks l (emit_bounded s d (tree_at s f p)) (behind_at s f p) (Ok (record { step = i; place = q })) l'
+    literal-walks v e k = record { runs = part-runs s (emit_bounded s d) (between-part h e v.end) k; moved = v.end }
 
-      pub one-walks : {l₂ : Book} {r : Walked} {i j : ℕ} → done_by a.ran ≡ true → i ≡ step_by a.ran → Whole s d f p.at l₁ i j a.place r l₂ → Walks l (emit_bounded s d (tree_at s f p)) (behind_at s f p) r l₂
-      one-walks g i w =
-          let n = k.moved g ∙ v.end in
+    module _ {l l₁ : Book} (v : OneAt s (tree_at s f p) f p q) where
+      pub one-walks-stop : {x : Stop} → Walks l (emit_bounded s d (tree_at s f q)) (behind_at s f q) (Err x) l₁ → Walks l (emit_bounded s d (tree_at s f p)) (behind_at s f p) (Err x) l₁
+      one-walks-stop k = record { runs = one-at-stop s (emit_bounded s d) (bounded s d) (bounded_kind s) (bounded-laws s d) v k.runs; moved = tt }
+
+      pub one-walks : {l₂ : Book} {a : Walked} {r : Result Walked Stop} {j : ℕ} → Walks l (emit_bounded s d (tree_at s f q)) (behind_at s f q) (Ok a) l₁ → Whole s d f p.at l₁ a.step j a.place r l₂
+          → Walks l (emit_bounded s d (tree_at s f p)) (behind_at s f p) r l₂
+      one-walks {r = r} k w =
+          let n = k.moved ∙ v.end in
           let e = between-part h refl n in
-          record { runs = one-at-runs s (emit_bounded s d) (bounded s d) (bounded_kind s) (bounded-laws s d) v k.runs e here-limited (here-bytes e) g i w.0; moved = λ x. w.1 ∙ n }
+          record { runs = one-at-runs s (emit_bounded s d) (bounded s d) (bounded_kind s) (bounded-laws s d) v k.runs e here-limited (here-bytes e) w.0; moved = moved-to r n w.1 }
 
-    module _ {l l₁ : Book} {a : Walked} (v : TwoAt s (tree_at s f p) f p q) (k : Walks l (emit_bounded s d (tree_at s f q)) (behind_at s f q) a l₁) where
-      pub two-walks-stop : done_by a.ran ≡ false → Walks l (emit_bounded s d (tree_at s f p)) (behind_at s f p) a l₁
-      two-walks-stop g = record { runs = two-at-stop s (emit_bounded s d) (bounded s d) (bounded_kind s) (bounded-laws s d) v k.runs g; moved = λ x. not-both x g }
+    module _ {l l₁ : Book} (v : TwoAt s (tree_at s f p) f p q) where
+      pub two-walks-stop : {x : Stop} → Walks l (emit_bounded s d (tree_at s f q)) (behind_at s f q) (Err x) l₁ → Walks l (emit_bounded s d (tree_at s f p)) (behind_at s f p) (Err x) l₁
+      two-walks-stop k = record { runs = two-at-stop s (emit_bounded s d) (bounded s d) (bounded_kind s) (bounded-laws s d) v k.runs; moved = tt }
 
-      module _ {l₂ : Book} {c : Walked} (g : done_by a.ran ≡ true) (k₂ : Walks l₁ (emit_bounded s d (tree_at s f a.place)) (behind_at s f a.place) c l₂) where
-        pub two-walks-stop-right : done_by c.ran ≡ false → Walks l (emit_bounded s d (tree_at s f p)) (behind_at s f p) c l₂
-        two-walks-stop-right o = record { runs = two-at-stop-right s (emit_bounded s d) (bounded s d) (bounded_kind s) (bounded-laws s d) v k.runs g (k.moved g) k₂.runs o; moved = λ x. two-end v (k.moved g) (k₂.moved x) }
+      module _ {l₂ : Book} {a : Walked} (k : Walks l (emit_bounded s d (tree_at s f q)) (behind_at s f q) (Ok a) l₁) where
+        pub two-walks-stop-right : {x : Stop} → Walks l₁ (emit_bounded s d (tree_at s f a.place)) (behind_at s f a.place) (Err x) l₂ → Walks l (emit_bounded s d (tree_at s f p)) (behind_at s f p) (Err x) l₂
+        two-walks-stop-right m = record { runs = two-at-stop-right s (emit_bounded s d) (bounded s d) (bounded_kind s) (bounded-laws s d) v k.runs k.moved m.runs; moved = tt }
 
-        pub two-walks : {l₃ : Book} {r : Walked} {i j : ℕ} → done_by c.ran ≡ true → i ≡ step_by a.ran → j ≡ step_by c.ran → Whole s d f p.at l₂ i j c.place r l₃ → Walks l (emit_bounded s d (tree_at s f p)) (behind_at s f p) r l₃
-        two-walks o i j w =
-            let n = two-end v (k.moved g) (k₂.moved o) in
+        pub two-walks : {l₃ : Book} {c : Walked} {r : Result Walked Stop} → Walks l₁ (emit_bounded s d (tree_at s f a.place)) (behind_at s f a.place) (Ok c) l₂ → Whole s d f p.at l₂ a.step c.step c.place r l₃
+            → Walks l (emit_bounded s d (tree_at s f p)) (behind_at s f p) r l₃
+        two-walks {r = r} m w =
+            let n = two-end v k.moved m.moved in
             let e = between-part h refl n in
-            record { runs = two-at-runs s (emit_bounded s d) (bounded s d) (bounded_kind s) (bounded-laws s d) v k.runs g (k.moved g) k₂.runs e here-limited (here-bytes e) o i j w.0; moved = λ x. w.1 ∙ n }
+            record { runs = two-at-runs s (emit_bounded s d) (bounded s d) (bounded_kind s) (bounded-laws s d) v k.runs k.moved m.runs e here-limited (here-bytes e) w.0; moved = moved-to r n w.1 }

@@ -6,8 +6,6 @@ use Rattle.std.specs.Int.Bits.{bit_or}
 use Rattle.formula.specs.Answers.{pick}
 use Rattle.clauses.specs.Normal.{any, opposite, Handling}
 use Rattle.clauses.specs.declared.Clause.{Clause}
-use Rattle.clauses.specs.declared.Comparison.{Comparison}
-use Rattle.clauses.specs.declared.Comparison.TheVariants.{Before, Same, After}
 
 -- Is a number more than 0?
 abbrev pub positive : ℕ → Bool
@@ -130,9 +128,3 @@ facing o = record { order = order_of; below = below_of; against = λ c d. meet_o
 
 pub record Opposes (mask c o : Clause) : Type 0 where
   pub says : bits o ≡ opposites (bits mask) (bits c)
-
--- What an answer says.
-abbrev pub said : Comparison → Ordering
-said Before = Ordering.lt
-said Same = Ordering.eq
-said After = Ordering.gt

@@ -1,8 +1,10 @@
 // Clauses of literals as bits, by value.
 #![tactic(auto)]
 
+mod ordered;
 mod words;
 
+pub use ordered::{Ordered, insert};
 pub use words::{below, has, join, meet, none, ones, opposites, order, single, with};
 
 // A clause: a bit for each of the literals of a face, of which there are at most 256.
@@ -12,12 +14,4 @@ pub struct Clause {
     pub w1: u64,
     pub w2: u64,
     pub w3: u64,
-}
-
-// Which of two clauses comes first.
-#[derive(Clone, Copy)]
-pub enum Comparison {
-    Before,
-    Same,
-    After,
 }

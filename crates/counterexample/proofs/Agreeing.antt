@@ -10,7 +10,9 @@ use lib.Dec.{leb}
 use lib.ListN.{length}
 use borrow.Author.Tests.{leb-true}
 use Rattle.refusals.specs.declared.Refusal.TheVariants.{LargeDimension, ShortOutput, NotBelow, NotImplied}
-use Rattle.refusals.specs.Refusals.{Result, refused, done, of_one, of_two, said_counted}
+use Rattle.std.specs.Prelude.{Result, Ok, Err}
+use Rattle.refusals.specs.declared.Refusal.{Refusal}
+use Rattle.refusals.specs.Refusals.{of_one, of_two}
 use Rattle.formula.specs.Formula.{Face}
 use Rattle.formula.specs.declared.Sort.TheVariants.{Faces}
 use Rattle.formula.specs.Bytes.{bound_face, read_all, max_bound}
@@ -25,7 +27,6 @@ use Rattle.calculus.proofs.Doors.{NotRefusedTo7}
 use Rattle.assignments.specs.Assignments.{Least}
 use Rattle.assignments.proofs.Least.{least-one}
 use Rattle.assignments.proofs.Entailing.{least-refuted, least-when-9}
-use Rattle.refusals.specs.declared.Counted.{Counted}
 use Rattle.counterexample.specs.Answers.{Claim, numbered, admitted, asked, Behind, Found, before, sought, Told, put, ShowsFor, Shows}
 
 -- ---- what is answered is fixed
@@ -36,15 +37,15 @@ behind-one d c none (some m) p q = absurd (least-refuted q p)
 behind-one d c (some l) none p q = absurd (least-refuted p q)
 behind-one d c (some l) (some m) p q = ap some (least-one p q)
 
-found-one : {d : ℕ} {x : Result Claim} {f g : Result (Option (List ℕ))} → Found d x f → Found d x g → f ≡ g
+found-one : {d : ℕ} {x : Result Claim Refusal} {f g : Result (Option (List ℕ)) Refusal} → Found d x f → Found d x g → f ≡ g
 found-one before before = refl
-found-one {d} (sought {c} x p) (sought y q) = ap done (behind-one d c x y p q)
+found-one {d} (sought {c} x p) (sought y q) = ap Ok (behind-one d c x y p q)
 
 -- Two answers to one question are the same, and so is every byte of the output.
-pub shows-one : {d : ℕ} {out : List ℕ} {x : Result Claim} {r s : Counted} {o p : List ℕ} → ShowsFor d out x r o → ShowsFor d out x s p → (said_counted r ≡ said_counted s) × (o ≡ p)
+pub shows-one : {d : ℕ} {out : List ℕ} {x : Result Claim Refusal} {r s : Result ℕ Refusal} {o p : List ℕ} → ShowsFor d out x r o → ShowsFor d out x s p → (r ≡ s) × (o ≡ p)
 shows-one {d} {out} {r = r} {s} {o} {p} f g = (ap (λ (t : Told). t.answer) same, ap (λ (t : Told). t.output) same)
   where
-    same : ◌≡◌ {A = Told} (record { answer = said_counted r; output = o }) (record { answer = said_counted s; output = p })
+    same : ◌≡◌ {A = Told} (record { answer = r; output = o }) (record { answer = s; output = p })
     same = sym f.equal ∙ ap (put d out) (found-one f.is g.is) ∙ g.equal
 
 -- ---- what was admitted
@@ -57,15 +58,15 @@ pub record Admitted (d : ℕ) (a b out : List ℕ) (c : Claim) : Type 0 where
   pub high : bound_face c.goal ≤ d
   pub room : d ≤ length out
 
-operand-reads : (l : List ℕ) (t : Face) → operand Faces l ≡ done t → read_all Faces l ≡ some t
+operand-reads : (l : List ℕ) (t : Face) → operand Faces l ≡ Ok t → read_all Faces l ≡ some t
 operand-reads l t e = ap (read_all Faces) (opened Faces l t e).bytes ∙ read_all-encode Faces t
 
 -- Questions 4, 6 and 8, by their tests.
-admitted-by : (d : ℕ) (a b out : List ℕ) (k c : Claim) → read_all Faces a ≡ some k.left → read_all Faces b ≡ some k.goal → of_one (admitted d out) (numbered d k.left k.goal) ≡ done c → Admitted d a b out c
+admitted-by : (d : ℕ) (a b out : List ℕ) (k c : Claim) → read_all Faces a ≡ some k.left → read_all Faces b ≡ some k.goal → of_one (admitted d out) (numbered d k.left k.goal) ≡ Ok c → Admitted d a b out c
 admitted-by d a b out k c i j e = first (leb d max_bound) e
   where
     then : (w x y : Bool) → leb d (length out) ≡ w → leb (bound_face k.left) d ≡ x → leb (bound_face k.goal) d ≡ y
-        → pick w (pick (x && y) (done k) (refused NotBelow)) (refused ShortOutput) ≡ done c → Admitted d a b out c
+        → pick w (pick (x && y) (Ok k) (Err NotBelow)) (Err ShortOutput) ≡ Ok c → Admitted d a b out c
     then true true true p q r e =
         subst (Admitted d a b out) (let h : k ≡ c = cc in h) (record {
           left = i;
@@ -78,34 +79,34 @@ admitted-by d a b out k c i j e = first (leb d max_bound) e
     then true false y p q r e = absurd (let h : ◌≡◌ {A = ℕ} 0 1 = cc in omega arith)
     then false x y p q r e = absurd (let h : ◌≡◌ {A = ℕ} 0 1 = cc in omega arith)
 
-    first : (v : Bool) → of_one (admitted d out) (pick v (done k) (refused LargeDimension)) ≡ done c → Admitted d a b out c
+    first : (v : Bool) → of_one (admitted d out) (pick v (Ok k) (Err LargeDimension)) ≡ Ok c → Admitted d a b out c
     first true e = then (leb d (length out)) (leb (bound_face k.left) d) (leb (bound_face k.goal) d) refl refl refl e
     first false e = absurd (let h : ◌≡◌ {A = ℕ} 0 1 = cc in omega arith)
 
 -- What it means that every question before the search is kept.
-pub asked-admitted : (d : ℕ) (a b out : List ℕ) (c : Claim) → asked d a b out ≡ done c → Admitted d a b out c
+pub asked-admitted : (d : ℕ) (a b out : List ℕ) (c : Claim) → asked d a b out ≡ Ok c → Admitted d a b out c
 asked-admitted d a b out c e = go (operand Faces a) (operand Faces b) refl refl e
   where
-    go : (x y : Result Face) → operand Faces a ≡ x → operand Faces b ≡ y → of_one (admitted d out) (of_two (numbered d) x y) ≡ done c → Admitted d a b out c
-    go (refused p) (refused q) i j e = absurd (let h : ◌≡◌ {A = ℕ} 0 1 = cc in omega arith)
-    go (refused p) (done β) i j e = absurd (let h : ◌≡◌ {A = ℕ} 0 1 = cc in omega arith)
-    go (done α) (refused q) i j e = absurd (let h : ◌≡◌ {A = ℕ} 0 1 = cc in omega arith)
-    go (done α) (done β) i j e = admitted-by d a b out (record { left = α; goal = β }) c (operand-reads a α i) (operand-reads b β j) e
+    go : (x y : Result Face Refusal) → operand Faces a ≡ x → operand Faces b ≡ y → of_one (admitted d out) (of_two (numbered d) x y) ≡ Ok c → Admitted d a b out c
+    go (Err p) (Err q) i j e = absurd (let h : ◌≡◌ {A = ℕ} 0 1 = cc in omega arith)
+    go (Err p) (Ok β) i j e = absurd (let h : ◌≡◌ {A = ℕ} 0 1 = cc in omega arith)
+    go (Ok α) (Err q) i j e = absurd (let h : ◌≡◌ {A = ℕ} 0 1 = cc in omega arith)
+    go (Ok α) (Ok β) i j e = admitted-by d a b out (record { left = α; goal = β }) c (operand-reads a α i) (operand-reads b β j) e
 
 -- ---- at the door
 
 -- An assignment is written exactly when there is a least.
-written-least : (d : ℕ) (out : List ℕ) (c : Claim) {r : Counted} {out' : List ℕ} → ShowsFor d out (done c) r out' → (said_counted r ≡ done d) ↔ ((m : List ℕ) × Least d c.left c.goal m)
+written-least : (d : ℕ) (out : List ℕ) (c : Claim) {r : Result ℕ Refusal} {out' : List ℕ} → ShowsFor d out (Ok c) r out' → (r ≡ Ok d) ↔ ((m : List ℕ) × Least d c.left c.goal m)
 written-least d out c {r} s = go s.is (ap (λ (t : Told). t.answer) s.equal)
   where
-    go : {f : Result (Option (List ℕ))} → Found d (done c) f → (put d out f).answer ≡ said_counted r → (said_counted r ≡ done d) ↔ ((m : List ℕ) × Least d c.left c.goal m)
+    go : {f : Result (Option (List ℕ)) Refusal} → Found d (Ok c) f → (put d out f).answer ≡ r → (r ≡ Ok d) ↔ ((m : List ℕ) × Least d c.left c.goal m)
     go (sought none p) e = (λ h. absurd (let k : ◌≡◌ {A = ℕ} 0 1 = cc in omega arith), λ x. absurd (least-refuted x.1 p))
     go (sought (some l) p) e = (λ h. (l, p), λ x. sym e)
 
 -- Where every question before the search is kept, and entails is not refused by 1 to 7, an assignment is written exactly when entails is refused by 9.
-pub written-when-9 : (d : ℕ) (a b out : List ℕ) (c : Claim) → asked d a b out ≡ done c → {r : Counted} {out' : List ℕ} → Shows d a b out r out'
+pub written-when-9 : (d : ℕ) (a b out : List ℕ) (c : Claim) → asked d a b out ≡ Ok c → {r : Result ℕ Refusal} {out' : List ℕ} → Shows d a b out r out'
     → (l : List ℕ) (L : List Step) → read_ledger l ≡ some L → NotRefusedTo7 (reply (entails d a b) l).answer
-    → (said_counted r ≡ done d) ↔ ((reply (entails d a b) l).answer ≡ Door.refused NotImplied)
+    → (r ≡ Ok d) ↔ ((reply (entails d a b) l).answer ≡ Door.refused NotImplied)
 written-when-9 d a b out c k {r} {out'} s l L e u =
     let A = asked-admitted d a b out c k in
     let w = written-least d out c (subst (λ x. ShowsFor d out x r out') k s) in

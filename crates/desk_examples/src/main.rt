@@ -5,47 +5,30 @@
 use desk::Verdict;
 use std::io;
 use std::io::{BufReader, BufWriter, Read, Write};
-
-// A damage has a place of three bytes, the lowest first, and the new byte behind it.
-fn place(b: &[u8; 4]) -> usize {
-    stdio::low(b) + 65536 * stdio::wide(b[2])
-}
-
-fn answer<W: Write>(out: &mut W, word: &[u8], n: usize) -> io::Result<()> {
-    stdio::text(out, word)?;
-    stdio::number(out, n)
-}
+use std::mem;
 
 // `1` for refusal 1, `@N` for refusal 10 at step N, `pN` for N steps passed.
 fn tell<W: Write>(out: &mut W, v: Verdict) -> io::Result<()> {
     match v {
-        Verdict::Ill => stdio::text(out, b"1"),
-        Verdict::Fails(n) => answer(out, b"@", n),
-        Verdict::Passes(n) => answer(out, b"p", n),
+        Verdict::Ill => write!(out, "1"),
+        Verdict::Fails(n) => write!(out, "@{n}"),
+        Verdict::Passes(n) => write!(out, "p{n}"),
     }
 }
 
 // The desk's answer with the byte at a place changed; the byte is put back.
 fn damaged<W: Write>(out: &mut W, l: &mut [u8], at: usize, byte: u8) -> io::Result<()> {
     if l.len() <= at {
-        return stdio::text(out, b"?");
+        return write!(out, "?");
     }
-    let old = l[at];
-    l[at] = byte;
+    let old = mem::replace(&mut l[at], byte);
     let v = desk::step_desk(l);
     l[at] = old;
     tell(out, v)
 }
 
-// Sixteen answers to a line.
-fn gap<W: Write>(out: &mut W, i: usize) -> io::Result<()> {
-    if i % 16 == 0 {
-        return stdio::text(out, b"\n ");
-    }
-    stdio::text(out, b" ")
-}
-
-// So many damages of the ledger.
+// So many damages of the ledger, sixteen answers to a line. A damage has a place of three bytes, the lowest first, and the
+// new byte behind it.
 fn damages<R: Read, W: Write>(
     input: &mut R,
     out: &mut W,
@@ -53,11 +36,12 @@ fn damages<R: Read, W: Write>(
     count: usize,
 ) -> io::Result<()> {
     for i in 0..count {
-        gap(out, i)?;
-        let b = stdio::word(input)?;
-        damaged(out, l, place(&b), b[3])?;
+        write!(out, "{}", if i % 16 == 0 { "\n " } else { " " })?;
+        let [a, b, c, byte] = stdio::word(input)?;
+        let at = u32::from_le_bytes([a, b, c, 0]);
+        damaged(out, l, at as usize, byte)?;
     }
-    stdio::text(out, b"\n")
+    writeln!(out)
 }
 
 // A ledger as long as the slice, and its damages.
@@ -68,25 +52,14 @@ fn ledger<R: Read, W: Write>(input: &mut R, out: &mut W, l: &mut [u8]) -> io::Re
     damages(input, out, l, count)
 }
 
-// The next ledger behind its length; false where none is left or there is no room.
-fn next<R: Read, W: Write>(input: &mut R, out: &mut W, space: &mut [u8]) -> io::Result<bool> {
-    let n = stdio::read_number(input)?;
-    if n == 0 {
-        return Ok(false);
-    }
-    if n <= space.len() {
-        ledger(input, out, &mut space[..n])?;
-        return Ok(true);
-    }
-    Ok(false)
-}
-
-// All ledgers, at most a thousand.
+// All ledgers, each behind its length, at most a thousand, until there is none or no room for it.
 fn ledgers<R: Read, W: Write>(input: &mut R, out: &mut W, space: &mut [u8]) -> io::Result<()> {
-    for _ in 0..1000usize {
-        if !next(input, out, space)? {
+    for _ in 0..1000 {
+        let n = stdio::read_number(input)?;
+        if n == 0 || space.len() < n {
             break;
         }
+        ledger(input, out, &mut space[..n])?;
     }
     Ok(())
 }

@@ -23,9 +23,9 @@ use Rattle.clauses.proofs.Selecting.{words-carry, select-single, select-none, bi
 use Rattle.literals.specs.Numbers.{blanks_from, blanks, position}
 use Rattle.literals.specs.Collecting.{Asks, Collects}
 use Rattle.literals.proofs.Ranking.{Ranks, ranking, numbers-small, ranking-asks, ranking-made, ranked as ranked_numbers}
-use Rattle.forms.proofs.FormLaws.{wrote_as}
+use Rattle.std.proofs.Common as Std
 use Rattle.dnf.specs.Finding.{ranked}
-use Rattle.dnf.specs.Forming.{short_form, Fielded, Shapes, Forms, Whole, short_normal, Normals}
+use Rattle.dnf.specs.Forming.{short_form, Fielded, Shapes, Writes, Forms, Whole, short_normal, Normals}
 
 -- The literals of a clause as bits.
 abbrev literals_of : List ℕ → Bits → Clause
@@ -105,9 +105,9 @@ module _ {f : List ℕ} {n out : ℕ} (w : Whole f n out) where
       writes = w.writes;
     }
 
-    pub whole-normals : {o : List ℕ} {r : ℕ} {o' : List ℕ} → Forms (words mask) ks f o r o' → Normals f o r o'
-    whole-normals p = record {
+    pub whole-normals : {o : List ℕ} {r : Std.Option ℕ} {o' : List ℕ} → Forms (words mask) ks f o r o' → Normals f o r o'
+    whole-normals {o} {r} {o'} p = record {
       it = λ t e.
           let same : w.face ≡ t = encode_injective Faces w.face t (sym w.bytes ∙ e) in
-          wrote_as (bytes-normal w.face fit w.low ks made mask marks ∙ ap (λ g. short_normal (normal g)) same) (p.it w.face w.bytes);
+          subst (λ b. Writes b o r o') (bytes-normal w.face fit w.low ks made mask marks ∙ ap (λ g. short_normal (normal g)) same) (p.it w.face w.bytes);
     }

@@ -1,66 +1,63 @@
-// The clauses of a fand and of a for, from those of its two parts; 257 where they are more than 256 before pruning.
+// The clauses of a fand and of a for, from those of its two parts, which stand one behind the other in front of a list; none
+// where they are more than 256 before pruning.
 ghost use Rattle.std.specs.Prelude.{◌≡◌, ◌++◌, ◌≤◌, ◌+◌, length, take, drop};
 ghost use Rattle.clauses.specs.Normal.{limited, pairs as pairs_of};
 ghost use Rattle.clauses.specs.Words.{words};
 ghost use Rattle.clauses.specs.Lists.{Lists, node_list};
 
-use crate::{lists, paired, turns};
+use crate::{limits, lists, paired};
 use clauses::Clause;
 
-// Of a fand: the pairs of the n clauses from a place on with the m behind them, pruned.
+// Of a fand: the pairs of the first n clauses with the m behind them, pruned.
 fn both(
     list: &mut [Clause],
-    at: usize,
     n: usize,
     m: usize,
     mask: Clause,
     sorted: &mut [Clause],
-) -> usize
-    requires { (at + n + m + 257 ≤ length list.old) × (256 ≤ length sorted.old) }
-    ensures { Lists (limited (words mask) (pairs_of (words mask) (take n (drop at list.old)) (take m (drop (at + n) list.old)))) at list.old result list.new × (length sorted.new ≡ length sorted.old) }
+) -> Option<usize>
+    requires { (n + m + 257 ≤ length list.old) × (256 ≤ length sorted.old) }
+    ensures { Lists (limited (words mask) (pairs_of (words mask) (take n list.old) (take m (drop n list.old)))) result list.new }
 {
-    let k = paired::pairs(list, at, n, m, mask);
-    if turns::over(k) {
-        return 257;
-    }
-    let behind = at + n + m;
-    lists::prune(list, behind, k, at, sorted)
+    let behind = n + m;
+    let (parts, made) = list.split_at_mut(behind);
+    let parts = &parts[..];
+    let k = paired::pairs(&parts[..n], &parts[n..], mask, made)?;
+    Some(lists::prune(list, behind, k, sorted))
 }
 
-// Of a for: the n clauses from a place on and the m behind them, pruned.
+// Of a for: the first n clauses and the m behind them, pruned.
 fn either(
     list: &mut [Clause],
-    at: usize,
     n: usize,
     m: usize,
     mask: Clause,
     sorted: &mut [Clause],
-) -> usize
-    requires { (at + n + m + 257 ≤ length list.old) × (256 ≤ length sorted.old) }
-    ensures { Lists (limited (words mask) (take n (drop at list.old) ++ take m (drop (at + n) list.old))) at list.old result list.new × (length sorted.new ≡ length sorted.old) }
+) -> Option<usize>
+    requires { (n + m + 257 ≤ length list.old) × (256 ≤ length sorted.old) }
+    ensures { Lists (limited (words mask) (take n list.old ++ take m (drop n list.old))) result list.new }
 {
     let k = n + m;
-    if turns::over(k) {
-        return 257;
+    if limits::over(k) {
+        return None;
     }
-    lists::prune(list, at, k, at, sorted)
+    Some(lists::prune(list, 0, k, sorted))
 }
 
 // Of a node with a kind byte, 4 for fand and 5 for for.
 pub fn node(
-    kind: usize,
+    kind: u8,
     list: &mut [Clause],
-    at: usize,
     n: usize,
     m: usize,
     mask: Clause,
     sorted: &mut [Clause],
-) -> usize
-    requires { (at + n + m + 257 ≤ length list.old) × (256 ≤ length sorted.old) }
-    ensures { Lists (node_list (words mask) kind (take n (drop at list.old)) (take m (drop (at + n) list.old))) at list.old result list.new × (length sorted.new ≡ length sorted.old) }
+) -> Option<usize>
+    requires { (n + m + 257 ≤ length list.old) × (256 ≤ length sorted.old) }
+    ensures { Lists (node_list (words mask) kind (take n list.old) (take m (drop n list.old))) result list.new }
 {
     if kind == 4 {
-        return both(list, at, n, m, mask, sorted);
+        return both(list, n, m, mask, sorted);
     }
-    either(list, at, n, m, mask, sorted)
+    either(list, n, m, mask, sorted)
 }

@@ -5,8 +5,8 @@
 mod finding;
 mod forming;
 mod joined;
+mod limits;
 mod lists;
 mod paired;
-mod turns;
 
 pub use forming::form;

@@ -5,46 +5,83 @@ use operations::Op;
 use std::io;
 use std::io::{Read, Write};
 
+// What is asked.
+#[derive(Clone, Copy)]
+enum Ask {
+    Measure,
+    Forall,
+    Boundary,
+    Shift,
+    Substitute,
+    Part,
+    Steps,
+    Ledger,
+    Name,
+    Put,
+    Same,
+}
+
+impl Ask {
+    // By its number in the input, from 1 on.
+    fn numbered(n: usize) -> Option<Ask> {
+        let ask = match n {
+            1 => Ask::Measure,
+            2 => Ask::Forall,
+            3 => Ask::Boundary,
+            4 => Ask::Shift,
+            5 => Ask::Substitute,
+            6 => Ask::Part,
+            7 => Ask::Steps,
+            8 => Ask::Ledger,
+            9 => Ask::Name,
+            10 => Ask::Put,
+            11 => Ask::Same,
+            _ => return None,
+        };
+        Some(ask)
+    }
+}
+
 // What is asked, of which sort, a number, how many bytes are lent, and the lengths of label and operands.
 #[derive(Clone, Copy)]
 pub struct Case {
-    pub what: usize,
-    pub sort: usize,
-    pub number: usize,
-    pub room: usize,
-    pub label: usize,
-    pub first: usize,
-    pub second: usize,
-}
-
-pub fn head<R: Read>(input: &mut R) -> io::Result<Case> {
-    let what = stdio::read_number(input)?;
-    let sort = stdio::read_number(input)?;
-    let number = stdio::read_number(input)?;
-    let room = stdio::read_number(input)?;
-    let label = stdio::read_number(input)?;
-    let first = stdio::read_number(input)?;
-    let second = stdio::read_number(input)?;
-    Ok(Case {
-        what,
-        sort,
-        number,
-        room,
-        label,
-        first,
-        second,
-    })
+    ask: Ask,
+    sort: Sort,
+    number: usize,
+    room: usize,
+    label: usize,
+    first: usize,
+    second: usize,
 }
 
 fn sort_of(n: usize) -> Sort {
-    if n == 0 {
-        return Sort::Faces;
+    match n {
+        0 => Sort::Faces,
+        _ => Sort::Intervals,
     }
-    Sort::Intervals
 }
 
-fn boundary<W: Write>(out: &mut W, s: &[u8], zero: &mut [u8], one: &mut [u8]) -> io::Result<()> {
+// The next case, where one is left.
+pub fn head<R: Read>(input: &mut R) -> io::Result<Option<Case>> {
+    let Some(ask) = Ask::numbered(stdio::read_number(input)?) else {
+        return Ok(None);
+    };
+    Ok(Some(Case {
+        ask,
+        sort: sort_of(stdio::read_number(input)?),
+        number: stdio::read_number(input)?,
+        room: stdio::read_number(input)?,
+        label: stdio::read_number(input)?,
+        first: stdio::read_number(input)?,
+        second: stdio::read_number(input)?,
+    }))
+}
+
+// The second slice of a boundary has as many bytes as the case's number says.
+fn boundary<W: Write>(out: &mut W, s: &[u8], zero: &mut [u8], n: usize) -> io::Result<()> {
     show::sized(out, operations::boundary_size(s))?;
+    let mut space = [255u8; 64];
+    let one = stdio::part(&mut space, n);
     let x = operations::boundary(s, zero, one);
     show::written(out, x, zero)?;
     show::written(out, x, one)
@@ -69,22 +106,6 @@ fn forall<W: Write>(out: &mut W, s: &[u8], k: usize, lent: &mut [u8]) -> io::Res
     show::written(out, x, lent)
 }
 
-// The operations, with lent slices of `room` bytes; the second slice of a boundary has as many bytes as the number says.
-fn operation<W: Write>(out: &mut W, c: Case, a: &[u8], b: &[u8]) -> io::Result<()> {
-    let mut first = [255u8; 64];
-    let mut second = [255u8; 64];
-    let k = c.number;
-    let sort = sort_of(c.sort);
-    let lent: &mut [u8] = stdio::part(&mut first, c.room);
-    let what = c.what;
-    match what {
-        2 => forall(out, a, k, lent),
-        3 => boundary(out, a, lent, stdio::part(&mut second, k)),
-        4 => transform(out, sort, Op::DShift(k), a, b, lent),
-        _ => transform(out, sort, Op::DSubst(k), a, b, lent),
-    }
-}
-
 // Steps from a place on until one leads nowhere, at most so many.
 fn steps<W: Write>(out: &mut W, sort: Sort, s: &[u8], at: usize, times: usize) -> io::Result<()> {
     let mut p = Place::start(at);
@@ -94,25 +115,9 @@ fn steps<W: Write>(out: &mut W, sort: Sort, s: &[u8], at: usize, times: usize) -
     Ok(())
 }
 
-// The steps that a ledger has, and the operands of steps 0, 1, 2 and of the largest number.
-fn ledger<W: Write>(out: &mut W, l: &[u8]) -> io::Result<()> {
-    show::checked(out, ledger::well_formed(l))?;
-    show::part(out, lookup::operands(l, 0))?;
-    show::part(out, lookup::operands(l, 1))?;
-    show::part(out, lookup::operands(l, 2))?;
-    show::part(out, lookup::operands(l, 18446744073709551615))?;
-    stdio::text(out, b"\n")
-}
-
-// The same of bytes with the first operand in front and the second at a place.
-fn filled<W: Write>(out: &mut W, l: &mut [u8], a: &[u8], b: &[u8], at: usize) -> io::Result<()> {
-    show::put(out, formula::put(a, l, 0))?;
-    show::put(out, formula::put(b, l, at))?;
-    ledger(out, l)
-}
-
-// The first n bytes of the space, zeros but for the operands.
-fn lent<W: Write>(
+// The first bytes of the space, zeros but for the first operand in front and the second at a place: the steps that the ledger
+// has, and the operands of steps 0, 1, 2 and of the largest number.
+fn ledger<W: Write>(
     out: &mut W,
     space: &mut [u8],
     n: usize,
@@ -120,12 +125,18 @@ fn lent<W: Write>(
     b: &[u8],
     at: usize,
 ) -> io::Result<()> {
-    let all = space.len();
-    records::clear(space, 0, all);
-    if n <= space.len() {
-        filled(out, &mut space[..n], a, b, at)?;
+    if space.len() < n {
+        return Ok(());
     }
-    Ok(())
+    space.fill(0);
+    let l: &mut [u8] = &mut space[..n];
+    show::put(out, formula::put(a, l, 0))?;
+    show::put(out, formula::put(b, l, at))?;
+    show::checked(out, ledger::well_formed(l))?;
+    for i in [0, 1, 2, usize::MAX] {
+        show::part(out, lookup::operands(l, i))?;
+    }
+    writeln!(out)
 }
 
 // The name of a kind, and whether the bytes are it. The longest name has 15 bytes.
@@ -134,31 +145,39 @@ fn name<W: Write>(out: &mut W, kind: usize, a: &[u8]) -> io::Result<()> {
     let n = kinds::name_len(kind);
     if n <= 16 {
         kinds::put_name(kind, &mut space, 0);
-        stdio::text(out, stdio::first(&space, n))?;
+        out.write_all(&space[..n])?;
     }
     show::yes_no(out, kinds::is_name(kind, a))
 }
 
 fn put<W: Write>(out: &mut W, a: &[u8], lent: &mut [u8], at: usize) -> io::Result<()> {
     show::put(out, formula::put(a, lent, at))?;
-    show::part(out, lent)?;
-    stdio::text(out, b"\n")
+    show::line(out, lent)
 }
 
-// The functions that make no formula.
-fn plain<W: Write>(out: &mut W, c: Case, a: &[u8], b: &[u8], space: &mut [u8]) -> io::Result<()> {
+// What is answered, with lent slices of as many bytes as the case says.
+fn answer<W: Write>(
+    out: &mut W,
+    c: Case,
+    a: &[u8],
+    b: &[u8],
+    space: &mut [u8],
+) -> io::Result<()> {
     let mut room = [255u8; 64];
+    let lent = stdio::part(&mut room, c.room);
     let n = c.number;
-    let sort = sort_of(c.sort);
-    let what = c.what;
-    match what {
-        1 => show::measured(out, formula::measure(sort, a)),
-        6 => show::line(out, formula::formula_at(sort, a, n)),
-        7 => steps(out, sort, a, n, c.room),
-        8 => lent(out, space, c.room, a, b, n),
-        9 => name(out, n, a),
-        10 => put(out, a, stdio::part(&mut room, c.room), n),
-        _ => show::yes_no(out, formula::same(a, b)),
+    match c.ask {
+        Ask::Measure => show::measured(out, formula::measure(c.sort, a)),
+        Ask::Forall => forall(out, a, n, lent),
+        Ask::Boundary => boundary(out, a, lent, n),
+        Ask::Shift => transform(out, c.sort, Op::DShift(n), a, b, lent),
+        Ask::Substitute => transform(out, c.sort, Op::DSubst(n), a, b, lent),
+        Ask::Part => show::line(out, formula::formula_at(c.sort, a, n)),
+        Ask::Steps => steps(out, c.sort, a, n, c.room),
+        Ask::Ledger => ledger(out, space, c.room, a, b, n),
+        Ask::Name => name(out, n, a),
+        Ask::Put => put(out, a, lent, n),
+        Ask::Same => show::yes_no(out, formula::same(a, b)),
     }
 }
 
@@ -172,12 +191,8 @@ pub fn run<R: Read, W: Write>(
     let mut label = [0u8; 4096];
     let mut first = [0u8; 4096];
     let mut second = [0u8; 4096];
-    stdio::text(out, stdio::read_bytes(input, &mut label, c.label)?)?;
-    let a: &[u8] = stdio::read_bytes(input, &mut first, c.first)?;
-    let b: &[u8] = stdio::read_bytes(input, &mut second, c.second)?;
-    let what = c.what;
-    match what {
-        2 | 3 | 4 | 5 => operation(out, c, a, b),
-        _ => plain(out, c, a, b, space),
-    }
+    out.write_all(stdio::read_bytes(input, &mut label, c.label)?)?;
+    let a = stdio::read_bytes(input, &mut first, c.first)?;
+    let b = stdio::read_bytes(input, &mut second, c.second)?;
+    answer(out, c, a, b, space)
 }

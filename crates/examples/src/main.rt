@@ -8,22 +8,13 @@ mod show;
 use std::io;
 use std::io::{BufReader, BufWriter, Read, Write};
 
-// The next case; false where none is left.
-fn next<R: Read, W: Write>(input: &mut R, out: &mut W, space: &mut [u8]) -> io::Result<bool> {
-    let c = cases::head(input)?;
-    if c.what == 0 {
-        return Ok(false);
-    }
-    cases::run(input, out, c, space)?;
-    Ok(true)
-}
-
 // All cases, at most a thousand.
 fn all<R: Read, W: Write>(input: &mut R, out: &mut W, space: &mut [u8]) -> io::Result<()> {
-    for _ in 0..1000usize {
-        if !next(input, out, space)? {
+    for _ in 0..1000 {
+        let Some(c) = cases::head(input)? else {
             break;
-        }
+        };
+        cases::run(input, out, c, space)?;
     }
     Ok(())
 }

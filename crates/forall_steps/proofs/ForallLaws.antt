@@ -2,7 +2,6 @@
 use Prim.Native.Nat.{ℕ, zero, suc, ◌+◌, ◌≤◌, ◌<◌, compare}
 use native.Mathlib.Omega.{arith}
 use mathlib.Core.Path.{◌≡◌, refl, sym, ap, ap₂, ◌∙◌, subst}
-use mathlib.Core.Bool.{true, false}
 use mathlib.Core.List.{List, [], ◌∷◌, ◌++◌}
 use lib.ListN.{get_or}
 use borrow.Author.Tests.{lt-ltb, le-ltb, ne_eqb}
@@ -24,8 +23,9 @@ use Rattle.calculus.specs.Calls.{side, less, emit_comparison, foralls, emit_fora
 use Rattle.calculus.proofs.Ends.{fforall-hit, fforall-lt, fforall-gt}
 use Rattle.calculus.proofs.Growing.{Limited}
 use Rattle.calculus.proofs.Calling.{forall-size}
-use Rattle.steps.specs.declared.Ran.{Ran}
-use Rattle.steps.specs.Running.{Book, done_by, step_by, Runs, Emits}
+use Rattle.std.specs.Prelude.{Ok, Err}
+use Rattle.steps.specs.declared.Stop.{Stop}
+use Rattle.steps.specs.Running.{Ran, Book, Runs, Emits}
 use Rattle.steps.specs.Trees.{Is, Known}
 use Rattle.forall_steps.specs.Programs.{forall_kind}
 use Rattle.steps.proofs.RunLaws.{emits-by, emits-kind, runs-emit, runs-stop}
@@ -104,23 +104,23 @@ pub literal-hit : {l l₁ : Book} {x f : List ℕ} {c : Ran} {i j z n : ℕ} (k 
 literal-hit {l} {l₁} {f = f} {c} {n = n} k t (at-end e p) h m o w =
     subst (λ (y : Program). Runs l y c l₁) (sym (hit-program k n e h)) (emits-by (emits-kind (end-kind (λ (m : ℕ). forall_kind m + 0) e (get_or f 0 0) 41 44 p refl refl) w) (hit-rule k n e h) [] refl tt m refl o)
 
-pub literal-below-stop : {l l₁ : Book} {f : List ℕ} {c : Ran} {n : ℕ} (k : ℕ) (t : Face) → AtEnd f n t → n < k → Runs l (emit_comparison less n k) c l₁ → done_by c ≡ false → Runs l (emit_forall k t) c l₁
-literal-below-stop {l} {l₁} {c = c} {n} k t (at-end e p) h w d =
-    subst (λ (y : Program). Runs l y c l₁) (sym (below-program k n e h)) (runs-stop (λ i. emit (side e 42 45) (i ∷ []) (foralls k (at e n))) w d)
+pub literal-below-stop : {l l₁ : Book} {f : List ℕ} {x : Stop} {n : ℕ} (k : ℕ) (t : Face) → AtEnd f n t → n < k → Runs l (emit_comparison less n k) (Err x) l₁ → Runs l (emit_forall k t) (Err x) l₁
+literal-below-stop {l} {l₁} {x = x} {n} k t (at-end e p) h w =
+    subst (λ (y : Program). Runs l y (Err x) l₁) (sym (below-program k n e h)) (runs-stop (λ i. emit (side e 42 45) (i ∷ []) (foralls k (at e n))) w refl)
 
-pub literal-above-stop : {l l₁ : Book} {f : List ℕ} {c : Ran} {n : ℕ} (k : ℕ) (t : Face) → AtEnd f n t → k < n → Runs l (emit_comparison less k n) c l₁ → done_by c ≡ false → Runs l (emit_forall k t) c l₁
-literal-above-stop {l} {l₁} {c = c} {n} k t (at-end e p) h w d =
-    subst (λ (y : Program). Runs l y c l₁) (sym (above-program k n e h)) (runs-stop (λ i. emit (side e 43 46) (i ∷ []) (foralls k (at e n))) w d)
+pub literal-above-stop : {l l₁ : Book} {f : List ℕ} {x : Stop} {n : ℕ} (k : ℕ) (t : Face) → AtEnd f n t → k < n → Runs l (emit_comparison less k n) (Err x) l₁ → Runs l (emit_forall k t) (Err x) l₁
+literal-above-stop {l} {l₁} {x = x} {n} k t (at-end e p) h w =
+    subst (λ (y : Program). Runs l y (Err x) l₁) (sym (above-program k n e h)) (runs-stop (λ i. emit (side e 43 46) (i ∷ []) (foralls k (at e n))) w refl)
 
-pub literal-below : {l l₁ l₂ : Book} {x f : List ℕ} {c s : Ran} {i j z n : ℕ} (k : ℕ) (t : Face) → AtEnd f n t → n < k → Limited (foralls k t) → operand_bytes (foralls k t) ≡ x
-    → Runs l (emit_comparison less n k) c l₁ → done_by c ≡ true → i ≡ step_by c → Emits l₁ (forall_kind (get_or f 0 0) + 1) (i ∷ j ∷ z ∷ []) x s l₂ → Runs l (emit_forall k t) s l₂
-literal-below {l} {l₂ = l₂} {f = f} {s = s} {n = n} k t (at-end e p) h m o w d g y =
-    subst (λ (y : Program). Runs l y s l₂) (sym (below-program k n e h)) (runs-emit w d g (emits-kind (end-kind (λ (m : ℕ). forall_kind m + 1) e (get_or f 0 0) 42 45 p refl refl) y) {q = lt n k} (rw (forall_below e n k h) (fforall-lt e)) m o)
+pub literal-below : {l l₁ l₂ : Book} {x f : List ℕ} {s : Ran} {i j z n : ℕ} (k : ℕ) (t : Face) → AtEnd f n t → n < k → Limited (foralls k t) → operand_bytes (foralls k t) ≡ x
+    → Runs l (emit_comparison less n k) (Ok i) l₁ → Emits l₁ (forall_kind (get_or f 0 0) + 1) (i ∷ j ∷ z ∷ []) x s l₂ → Runs l (emit_forall k t) s l₂
+literal-below {l} {l₂ = l₂} {f = f} {s = s} {n = n} k t (at-end e p) h m o w y =
+    subst (λ (y : Program). Runs l y s l₂) (sym (below-program k n e h)) (runs-emit w refl refl (emits-kind (end-kind (λ (m : ℕ). forall_kind m + 1) e (get_or f 0 0) 42 45 p refl refl) y) {q = lt n k} (rw (forall_below e n k h) (fforall-lt e)) m o)
 
-pub literal-above : {l l₁ l₂ : Book} {x f : List ℕ} {c s : Ran} {i j z n : ℕ} (k : ℕ) (t : Face) → AtEnd f n t → k < n → Limited (foralls k t) → operand_bytes (foralls k t) ≡ x
-    → Runs l (emit_comparison less k n) c l₁ → done_by c ≡ true → i ≡ step_by c → Emits l₁ (forall_kind (get_or f 0 0) + 2) (i ∷ j ∷ z ∷ []) x s l₂ → Runs l (emit_forall k t) s l₂
-literal-above {l} {l₂ = l₂} {f = f} {s = s} {n = n} k t (at-end e p) h m o w d g y =
-    subst (λ (y : Program). Runs l y s l₂) (sym (above-program k n e h)) (runs-emit w d g (emits-kind (end-kind (λ (m : ℕ). forall_kind m + 2) e (get_or f 0 0) 43 46 p refl refl) y) (above-rule k n e h) m o)
+pub literal-above : {l l₁ l₂ : Book} {x f : List ℕ} {s : Ran} {i j z n : ℕ} (k : ℕ) (t : Face) → AtEnd f n t → k < n → Limited (foralls k t) → operand_bytes (foralls k t) ≡ x
+    → Runs l (emit_comparison less k n) (Ok i) l₁ → Emits l₁ (forall_kind (get_or f 0 0) + 2) (i ∷ j ∷ z ∷ []) x s l₂ → Runs l (emit_forall k t) s l₂
+literal-above {l} {l₂ = l₂} {f = f} {s = s} {n = n} k t (at-end e p) h m o w y =
+    subst (λ (y : Program). Runs l y s l₂) (sym (above-program k n e h)) (runs-emit w refl refl (emits-kind (end-kind (λ (m : ℕ). forall_kind m + 2) e (get_or f 0 0) 43 46 p refl refl) y) (above-rule k n e h) m o)
 
 -- The kind of a byte.
 pub kind-first : (b : ℕ) → b < 3 → b + 39 ≡ forall_kind b

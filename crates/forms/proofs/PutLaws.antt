@@ -2,12 +2,15 @@
 use Prim.Native.Nat.{ℕ, zero, suc, ◌+◌, ◌-◌, ◌*◌, ◌/◌, ◌%◌, ◌≤◌, ◌<◌}
 use native.Mathlib.Decide.{dec_le}
 use native.Mathlib.Numerals.{add-one}
+use Rattle.clauses.proofs.Selecting.{bits-length}
 use native.Mathlib.Omega.{arith}
 use mathlib.Core.Path.{◌≡◌, refl, sym, ap, ap₂, ◌∙◌, subst}
 use mathlib.Core.Bool.{Bool, true, false}
 use mathlib.Core.List.{List, [], ◌∷◌, ◌++◌}
-use lib.ListN.{length, get_or, set, drop, replicate, replicate-append-replicate, length-append, drop_of_length-le}
-use lib.Seq.{sets, drop-cons}
+use lib.ListN.{length, get_or, set, take, drop, length-drop, replicate, length-replicate, length-append, drop_of_length-le}
+use lib.Seq.{sets, sets-eq, take_all, length-take-le, drop-cons}
+use borrow.Rule.Slice.PartMut.{put_mid}
+use Rattle.std.proofs.lemmas.Slice.{put_mid-paste}
 use Rattle.formula.specs.Bytes.{dim_width, dim_bytes, encode_face}
 use Rattle.formula.specs.Answers.{pick, dim_space}
 use Rattle.formula.proofs.Nodes.{literal-kind}
@@ -15,7 +18,6 @@ use Rattle.clauses.specs.Normal.{literal, conjunction}
 use Rattle.clauses.specs.Shape.{All, each}
 use Rattle.clauses.specs.Words.{bits, select, count}
 use Rattle.clauses.specs.declared.Clause.{Clause as Bits}
-use Rattle.clauses.proofs.Selecting.{bits-length}
 use Rattle.forms.specs.Forms.{literal_nodes, weight_of, literals_bytes, clause_form, Wrote}
 use Rattle.forms.proofs.FormLaws.{conjunction-bytes, clause-count, wrote_none, wrote-next, wrote_as, wrote-length, times-room, Printing, printing-start, printing-room, printing-next, printing-end, printing-length}
 
@@ -35,11 +37,18 @@ weight-some c {m} e h = nodes-some m h ∙ ap literal_nodes e
 
 -- ---- a byte so many times
 
-pub times-next : (b i : ℕ) {out out' : List ℕ} {to : ℕ} → Wrote out to (replicate i b) (to + i) out' → Wrote out to (replicate (i + 1) b) (to + (i + 1)) (set out' (to + i) b)
-times-next b i h = wrote_as (replicate-append-replicate i 1 b) (wrote-next h (record { next = omega arith; stored = refl }))
-
-pub times-end : (b : ℕ) {out out' : List ℕ} {to i n : ℕ} → i ≤ n → n ≤ i → Wrote out to (replicate i b) (to + i) out' → Wrote out to (replicate n b) (to + n) out'
-times-end b {out} {out'} {to} h k w = subst (λ (n : ℕ). Wrote out to (replicate n b) (to + n) out') (omega arith) w
+pub filled : (b n : ℕ) {out ys : List ℕ} {to : ℕ} → to + n ≤ length out → ys ≡ replicate (length (take (to + n - to) (drop to out))) b → Wrote out to (replicate n b) (to + n) (put_mid to (to + n - to) out ys)
+filled b n {out} {ys} {to} h e =
+    let many : to + n - to ≡ n = omega arith in
+    let part : length (take (to + n - to) (drop to out)) ≡ n = length-take-le (to + n - to) (drop to out) (omega (arith, h, length-drop to out)) ∙ many in
+    let long : to + length (replicate n b) ≤ length out = omega (arith, h, length-replicate n b) in
+    record {
+      next = omega (arith, length-replicate n b);
+      stored =
+          put_mid-paste to (to + n - to) out ys (replicate n b) n (e ∙ ap (λ k. replicate k b) part) (sym many) (sym (length-replicate n b))
+          ∙ ap₂ (λ (l : List ℕ) (k : ℕ). take to out ++ l ++ drop (to + k) out) (take_all n (replicate n b) (omega (arith, length-replicate n b))) (sym (length-replicate n b))
+          ∙ sym (sets-eq (replicate n b) out to long);
+    }
 
 -- ---- a literal
 

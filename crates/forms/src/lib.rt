@@ -27,12 +27,9 @@ pub fn put_times(b: u8, n: usize, out: &mut [u8], to: usize) -> usize
     requires { to + n ≤ length out.old }
     ensures { Wrote out.old to (replicate n b) result out.new }
 {
-    let mut i: usize = 0;
-    while i < n {
-        out[to + i] = b;
-        i = i + 1;
-    }
-    to + n
+    let end = to + n;
+    out[to..end].fill(b);
+    end
 }
 
 // Writes the literal of a number; the place behind.
@@ -46,7 +43,8 @@ fn put_literal(k: usize, out: &mut [u8], to: usize) -> usize
     to + 1 + formula::DIM
 }
 
-// Writes the literals of a clause in order; the place behind. Counting what is left ends the loop at the last literal.
+// Writes the literals of a clause in order; the place behind. Counting what is left ends the loop at the last literal, which
+// is mostly one of the first ranks.
 fn put_literals(c: Clause, many: usize, numbers: &[usize], out: &mut [u8], to: usize) -> usize
     requires many_value { many ≡ count (bits c) }
     requires numbers_len { length numbers.now ≡ 256 }
@@ -56,13 +54,13 @@ fn put_literals(c: Clause, many: usize, numbers: &[usize], out: &mut [u8], to: u
 {
     let mut at = to;
     let mut left = many;
-    let mut rank: usize = 0;
+    let mut rank = 0;
     while left > 0 {
         if clauses::has(c, rank) {
             at = put_literal(numbers[rank], out, at);
-            left = left - 1;
+            left -= 1;
         }
-        rank = rank + 1;
+        rank += 1;
     }
     at
 }

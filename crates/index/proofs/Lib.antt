@@ -6,3 +6,4 @@ pub mod MarkLaws
 pub mod EnterLaws
 pub mod FindLaws
 pub mod BuildLaws
+pub mod IndexProps

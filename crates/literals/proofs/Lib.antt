@@ -1,6 +1,5 @@
 pub mod CollectLaws
 pub mod FaceLaws
-pub mod InsertLaws
 pub mod MaskLaws
 pub mod Ranking
 pub mod RowLaws

@@ -24,7 +24,8 @@ use Rattle.clauses.proofs.Lengths.{entered-length}
 use Rattle.clauses.proofs.Members.{◌∈◌, entered-has, entered-second}
 use Rattle.clauses.proofs.Orders.{compare-orders}
 use Rattle.clauses.proofs.Shaping.{entered-ascending}
-use Rattle.literals.specs.Numbers.{numbers_of, over, blanks_from, blanks, position}
+use Rattle.clauses.specs.Lists.{over}
+use Rattle.literals.specs.Numbers.{numbers_of, blanks_from, blanks, position}
 use Rattle.literals.specs.Collecting.{Asks, Collects}
 use Rattle.literals.proofs.RowLaws.{position_here, position-behind}
 

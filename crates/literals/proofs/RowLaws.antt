@@ -2,11 +2,18 @@
 use Prim.Native.Nat.{ℕ, suc, ◌+◌, ◌-◌, ◌*◌, ◌≤◌, ◌<◌}
 use native.Mathlib.Omega.{arith}
 use native.Mathlib.Numerals.{add-one}
-use mathlib.Core.Path.{◌≡◌, sym, ap, ap₂, ◌∙◌}
-use mathlib.Core.List.{List, ◌∷◌, ◌++◌, append-nil}
-use lib.ListN.{length, get_or, set, take, drop, length-set, drop_of_length-le}
-use lib.Seq.{take_all, take-suc-set, drop-cons, append_snoc}
-use borrow.Author.Tests.{eq-eqb, ne_eqb}
+use mathlib.Core.Path.{◌≡◌, refl, sym, ap, ap₂, ◌∙◌}
+use mathlib.Core.List.{List, [], ◌∷◌, ◌++◌, append-nil}
+use lib.ListN.{length, set, take, length-set}
+use lib.Seq.{take_all, take-suc-set, append_snoc}
+use borrow.Author.Tests.{eq-eqb, ne_eqb, le-leb, lt-leb}
+use native.Mathlib.Decide.{ℕ_discrete, dec_le}
+use mathlib.Core.Bool.{Bool, true, false}
+use lib.Dec.{eqb, ltb}
+use Rattle.std.proofs.Common.{cond, Some, None}
+use Rattle.std.specs.List.{position_or_len}
+use Rattle.std.specs.Option.{unwrap_or}
+use Rattle.std.proofs.lemmas.List.Recursion.{is_position_or_len}
 use Rattle.formula.specs.Answers.{pick}
 use Rattle.literals.specs.Numbers.{blanks_from, position}
 
@@ -49,24 +56,30 @@ pub position-behind : {k j : ℕ} (l : List ℕ) → (k ≡ j → ⊥) → posit
 unfolding position
 position-behind {k} {j} l e = ap (λ t. pick t 0 (suc (position k l))) (ne_eqb k j e)
 
-pub record Seeking (k : ℕ) (l : List ℕ) (i : ℕ) : Type 0 where
-  pub upto : i ≤ length l
-  pub left : position k l ≡ i + position k (drop i l)
-
-pub seeking-start : {k : ℕ} {l : List ℕ} → Seeking k l 0
-seeking-start = record { upto = omega arith; left = omega arith }
-
-pub seeking-found : {k : ℕ} {l : List ℕ} {i : ℕ} → Seeking k l i → i < length l → get_or l i 0 ≡ k → i ≡ position k l
-seeking-found {k} {l} {i} s h e = omega (arith, s.left, ap (position k) (drop-cons l i 0 h) ∙ position_here (drop (suc i) l) (sym e))
-
-pub seeking-next : {k : ℕ} {l : List ℕ} {i : ℕ} → Seeking k l i → i < length l → (get_or l i 0 ≡ k → ⊥) → Seeking k l (i + 1)
-seeking-next {k} {l} {i} s h e = record {
-  upto = omega (arith, h);
-  left = omega (arith, s.left, ap (position k) (drop-cons l i 0 h) ∙ position-behind (drop (suc i) l) (λ p. e (sym p)), ap (λ m. position k (drop m l)) (add-one i));
-}
-
-pub seeking-end : {k : ℕ} {l : List ℕ} {i : ℕ} → Seeking k l i → length l ≤ i → i ≡ position k l
+position-is : (k : ℕ) (l : List ℕ) → position k l ≡ position_or_len (λ j. eqb j k) l
 unfolding position
-seeking-end {k} {l} {i} s h =
-    let none : position k (drop i l) ≡ 0 = ap (position k) (drop_of_length-le l {i = i} h) in
-    omega (arith, s.left, none)
+position-is k l = is_position_or_len (position k) (λ j. eqb j k) refl more l
+  where
+    more : (j : ℕ) (l : List ℕ) → position k (j ∷ l) ≡ cond (eqb j k) 0 (1 + position k l)
+    more j l = by (ℕ_discrete k j)
+      where
+        by : Dec (k ≡ j) → position k (j ∷ l) ≡ cond (eqb j k) 0 (1 + position k l)
+        by (yes e) = position_here l e ∙ sym (ap (λ t. cond t 0 (1 + position k l)) (eq-eqb j k (sym e)))
+        by (no e) = let s : suc (position k l) ≡ 1 + position k l = omega arith in position-behind l e ∙ s ∙ sym (ap (λ t. cond t 0 (1 + position k l)) (ne_eqb j k (λ p. e (sym p))))
+
+position-most : (k : ℕ) (l : List ℕ) → position k l ≤ length l
+unfolding position
+position-most k [] = omega arith
+position-most k (j ∷ l) = by (eqb k j) (position-most k l)
+  where
+    by : (t : Bool) → position k l ≤ length l → pick t 0 (suc (position k l)) ≤ suc (length l)
+    by true h = omega arith
+    by false h = omega (arith, h)
+
+-- What a search for a number answers, with the length for none.
+pub position-or_len : (k : ℕ) (l : List ℕ) → unwrap_or (cond (ltb (position_or_len (λ j. eqb j k) l) (length l)) (Some (position_or_len (λ j. eqb j k) l)) None) (length l) ≡ position k l
+position-or_len k l = ap (λ n. unwrap_or (cond (ltb n (length l)) (Some n) None) (length l)) (sym (position-is k l)) ∙ by (dec_le (length l) (position k l))
+  where
+    by : Dec (length l ≤ position k l) → unwrap_or (cond (ltb (position k l) (length l)) (Some (position k l)) None) (length l) ≡ position k l
+    by (yes h) = ap (λ t. unwrap_or (cond t (Some (position k l)) None) (length l)) (lt-leb (suc (position k l)) (length l) (omega (arith, h))) ∙ omega (arith, h, position-most k l)
+    by (no h) = ap (λ t. unwrap_or (cond t (Some (position k l)) None) (length l)) (le-leb (suc (position k l)) (length l) (omega arith))

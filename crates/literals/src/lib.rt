@@ -2,15 +2,14 @@
 #![tactic(auto)]
 
 mod faces;
-mod inserts;
 mod rows;
 
 pub use faces::collect;
 pub use rows::{blank, mask, rank};
 
-// The place behind a face, and how many numbers there are.
+// What was found in a face: the place behind it, and how many there are.
 #[derive(Clone, Copy)]
 pub struct Found {
-    pub at: usize,
-    pub n: usize,
+    pub end: usize,
+    pub count: usize,
 }

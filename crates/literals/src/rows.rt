@@ -13,10 +13,8 @@ pub fn blank() -> [usize; 256]
     ensures { result ≡ blanks }
 {
     let mut numbers = [0usize; 256];
-    let mut i = 0;
-    while i < 256 {
+    for i in 0..256 {
         numbers[i] = 65536 + 2 * i;
-        i = i + 1;
     }
     numbers
 }
@@ -25,14 +23,10 @@ pub fn blank() -> [usize; 256]
 pub fn rank(numbers: &[usize], k: usize) -> usize
     ensures { result ≡ position k numbers.now }
 {
-    let mut i = 0;
-    while i < numbers.len() {
-        if numbers[i] == k {
-            return i;
-        }
-        i = i + 1;
-    }
-    i
+    numbers
+        .iter()
+        .position(|n| *n == k)
+        .unwrap_or(numbers.len())
 }
 
 // The literal at the other end of the same dimension.
@@ -63,10 +57,8 @@ pub fn mask(numbers: &[usize]) -> Clause
     ensures { bits result ≡ adjacent numbers.now }
 {
     let mut c = clauses::none();
-    let mut i = 0;
-    while i < 255 {
+    for i in 0..255 {
         c = marked(c, i, numbers[i], numbers[i + 1]);
-        i = i + 1;
     }
     c
 }

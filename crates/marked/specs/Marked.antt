@@ -1,5 +1,5 @@
 -- The marked examples of document 01 as one table: what is asked, what is answered, and when a row is right.
-use Rattle.std.specs.Prelude.{◌≡◌, true, false, ◌⊎◌, List, [], ◌∷◌, map, ℕ, ◌≤◌, ◌<◌, max}
+use Rattle.std.specs.Prelude.{◌≡◌, true, false, ◌⊎◌, List, [], ◌∷◌, map, ℕ, ◌≤◌, ◌<◌, max, Ok}
 use Rattle.std.proofs.Math.Option.{some}
 use Rattle.std.proofs.lemmas.List.Edits.{sets}
 use Rattle.formula.specs.declared.Sort.TheVariants.{Faces, Intervals}
@@ -12,7 +12,7 @@ use Rattle.calculus.specs.Truth.{EntailsBelow, True}
 use Rattle.calculus.specs.Record.{formula, max_ledger}
 use Rattle.calculus.specs.Parse.{read_ledger}
 use Rattle.refusals.specs.declared.Refusal.{Refusal}
-use Rattle.refusals.specs.Refusals.{number, done}
+use Rattle.refusals.specs.Refusals.{number}
 use Rattle.calculus.specs.Door
 use Rattle.calculus.specs.Door.{Call, Item, item, outputs_of, measure, answered, refused, Reply, long_enough, written, reply}
 use Rattle.calculus.specs.Demand.{empty}
@@ -109,7 +109,7 @@ pub record OnLedgers (m : ℕ) (c : Call) (x : Expected) : Type 0 where
 
 -- The answer for a normal form, with this output slice, says so: its size, with its bytes in front of the slice.
 pub data Forms (out : List ℕ) : Expected → Formed → Type 0 where
-  forms : {g : Face} → Forms out (yes-with (g ∷ [])) (record { answer = done (size_of Faces g); output = sets out 0 (encode Faces g) })
+  forms : {g : Face} → Forms out (yes-with (g ∷ [])) (record { answer = Ok (size_of Faces g); output = sets out 0 (encode Faces g) })
 
 -- The call answers so, as its contract has it, with the formulas' bytes as operands and any output slices. 1,000 bytes have room for its steps, and 1,000,000 for those of any interval of 511 nodes.
 abbrev pub Answers : Row → Type 0

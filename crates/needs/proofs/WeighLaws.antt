@@ -377,10 +377,3 @@ module _ (f : List ℕ) (i : ℕ) (S : List ℕ) {x y : Weight} (h : 4 ≤ get_o
     weighs = λ t rest e.
         subst (λ u. Weighs S u (lighter x y)) (sym ((p t rest e).disjoined k)) (lighter-weighs S (p t rest e).left (p t rest e).right (left-weighs t rest e) (right-weighs t rest e));
   }
-
--- What a fand needs, put together.
-pub conjoined-by : (m : ℕ) (x y : Weight) {w : ℕ} {f t : Bool} → w ≡ needed m x.weight y.weight → f ≡ (x.forced || y.forced) → t ≡ leads x y
-    → record { weight = w; dim = pick t x.dim y.dim; side = pick t x.side y.side; forced = f; at = y.at } ≡ conjoined m x y
-conjoined-by m x y {t = t} p q r =
-    ap₂ (λ (w : ℕ) (f : Bool). record { weight = w; dim = pick t x.dim y.dim; side = pick t x.side y.side; forced = f; at = y.at }) p q
-    ∙ ap (λ (t : Bool). record { weight = needed m x.weight y.weight; dim = pick t x.dim y.dim; side = pick t x.side y.side; forced = x.forced || y.forced; at = y.at }) r

@@ -4,7 +4,7 @@
 mod marks;
 mod weights;
 
-pub use marks::mark;
+pub use marks::{MarkedFace, mark};
 pub use weights::weigh;
 
 // What a face needs at least, one dimension and side that may be chosen for it, whether the face holds nowhere without,
@@ -13,14 +13,7 @@ pub use weights::weigh;
 pub struct Weight {
     pub weight: usize,
     pub dim: usize,
-    pub side: usize,
+    pub side: u8,
     pub forced: bool,
     pub at: usize,
-}
-
-// Whether something was found in a face, and the place behind the face.
-#[derive(Clone, Copy)]
-struct Seen {
-    at: usize,
-    found: bool,
 }

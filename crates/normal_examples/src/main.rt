@@ -1,22 +1,16 @@
 // Normal forms of faces. tools/normal/cases.py writes the input, and says what is to be printed.
 #![tactic(auto)]
 
-use normal::Normalised;
+use formula::Size;
+use refusals::Refusal;
 use std::io;
 use std::io::{BufReader, BufWriter, Read, Write};
 
-fn tell<W: Write>(out: &mut W, a: Normalised) -> io::Result<()> {
-    match a {
-        Normalised::Form(z) => {
-            stdio::text(out, b" length ")?;
-            stdio::number(out, z.len)?;
-        }
-        Normalised::Refused(e) => {
-            stdio::text(out, b" refused ")?;
-            stdio::number(out, refusals::number(e))?;
-        }
+fn tell<W: Write>(out: &mut W, form: Result<Size, Refusal>) -> io::Result<()> {
+    match form {
+        Ok(z) => write!(out, " length {}:", z.len),
+        Err(e) => write!(out, " refused {}:", refusals::number(e)),
     }
-    stdio::text(out, b":")
 }
 
 // A case whose label has n bytes: the face, what is answered, and every byte of the lent slice, 255 before the call.
@@ -24,19 +18,19 @@ fn case<R: Read, W: Write>(input: &mut R, out: &mut W, n: usize) -> io::Result<(
     let room = stdio::read_number(input)?;
     let m = stdio::read_number(input)?;
     let mut label = [0u8; 4096];
-    stdio::text(out, stdio::read_bytes(input, &mut label, n)?)?;
+    out.write_all(stdio::read_bytes(input, &mut label, n)?)?;
     let mut face = [0u8; 4096];
     let f = stdio::read_bytes(input, &mut face, m)?;
     let mut lent = [255u8; 4096];
     let form = stdio::part(&mut lent, room);
     tell(out, normal::normal(f, form))?;
     stdio::bytes(out, form)?;
-    stdio::text(out, b"\n")
+    writeln!(out)
 }
 
 // The input ends where no label follows. At most a thousand cases.
 fn cases<R: Read, W: Write>(input: &mut R, out: &mut W) -> io::Result<()> {
-    for _ in 0..1000usize {
+    for _ in 0..1000 {
         let n = stdio::read_number(input)?;
         if n == 0 {
             break;

@@ -1,54 +1,73 @@
 // What standard input says of a call.
+use crate::judge::Said;
 use std::io;
-use std::io::Read;
+use std::io::{ErrorKind, Read};
 
-// A sum of bytes: each half is below 65,521.
+// A call of the engine, in the order of their numbers in the input.
 #[derive(Clone, Copy)]
-pub struct Sums {
-    pub a: usize,
-    pub b: usize,
+pub enum Call {
+    Face,
+    Interval,
+    Boundary,
+    Endpoint,
+    Forall,
+    FaceShift,
+    IntervalShift,
+    FaceSubstitute,
+    IntervalSubstitute,
+    Entails,
 }
 
-// A call and what is expected of it. The answer is the refusal, or 16 and the step's number.
+// A call with its number, whether its end is one, the lengths of its outputs, operands and results, and what is expected of it.
 #[derive(Clone, Copy)]
 pub struct Heading {
-    pub kind: u8,
-    pub one: u8,
-    pub result: usize,
-    pub result2: usize,
+    pub call: Call,
     pub number: usize,
-    pub room: usize,
-    pub room2: usize,
-    pub operand: usize,
-    pub operand2: usize,
-    pub answer: usize,
+    pub one: bool,
+    pub rooms: (usize, usize),
+    pub operands: (usize, usize),
+    pub results: (usize, usize),
+    pub expected: Said,
 }
 
-pub fn sum<R: Read>(input: &mut R) -> io::Result<Sums> {
-    let b = stdio::word(input)?;
-    Ok(Sums {
-        a: stdio::low(&b),
-        b: stdio::high(&b),
-    })
+fn call_of(kind: u8) -> io::Result<Call> {
+    match kind {
+        0 => Ok(Call::Face),
+        1 => Ok(Call::Interval),
+        2 => Ok(Call::Boundary),
+        3 => Ok(Call::Endpoint),
+        4 => Ok(Call::Forall),
+        5 => Ok(Call::FaceShift),
+        6 => Ok(Call::IntervalShift),
+        7 => Ok(Call::FaceSubstitute),
+        8 => Ok(Call::IntervalSubstitute),
+        9 => Ok(Call::Entails),
+        _ => Err(io::Error::from(ErrorKind::InvalidData)),
+    }
+}
+
+// The answer is the refusal, or 16 and the step's number.
+fn answer_of(n: usize) -> Result<usize, usize> {
+    n.checked_sub(16).ok_or(n)
 }
 
 pub fn head<R: Read>(input: &mut R) -> io::Result<Heading> {
-    let k = stdio::word(input)?;
-    let n = stdio::read_number(input)?;
-    let rooms = stdio::word(input)?;
-    let operands = stdio::word(input)?;
-    let answer = stdio::read_number(input)?;
-    let results = stdio::word(input)?;
+    let [kind, one, _, _] = stdio::word(input)?;
+    let number = stdio::read_number(input)?;
+    let rooms = stdio::read_pair(input)?;
+    let operands = stdio::read_pair(input)?;
+    let answer = answer_of(stdio::read_number(input)?);
+    let results = stdio::read_pair(input)?;
     Ok(Heading {
-        kind: k[0],
-        one: k[1],
-        result: stdio::low(&results),
-        result2: stdio::high(&results),
-        number: n,
-        room: stdio::low(&rooms),
-        room2: stdio::high(&rooms),
-        operand: stdio::low(&operands),
-        operand2: stdio::high(&operands),
-        answer,
+        call: call_of(kind)?,
+        number,
+        one: one != 0,
+        rooms,
+        operands,
+        results,
+        expected: Said {
+            answer,
+            len: results.0,
+        },
     })
 }

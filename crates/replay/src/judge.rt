@@ -1,78 +1,54 @@
 // What the engine answered and wrote, held against what is expected.
-use crate::input::{Heading, Sums};
-use crate::lend::FILL;
+use refusals::Refusal;
+use replies::Made;
 use std::io;
 use std::io::Read;
 
+// What lent outputs are filled with beforehand.
+pub const FILL: u8 = 170;
+
 // An answer: the step's number or the refusal's, and the result's length.
-#[derive(Clone, Copy)]
+#[derive(Clone, Copy, PartialEq, Eq)]
 pub struct Said {
-    pub yes: bool,
-    pub number: usize,
+    pub answer: Result<usize, usize>,
     pub len: usize,
 }
 
-pub fn answered(h: Heading, s: Said) -> bool {
-    if s.len != h.result {
-        return false;
+pub fn step(a: Result<usize, Refusal>) -> Said {
+    Said {
+        answer: a.map_err(refusals::number),
+        len: 0,
     }
-    if h.answer < 16 {
-        return !s.yes && s.number == h.answer;
-    }
-    s.yes && s.number == h.answer - 16
 }
 
-// The sum of the first n bytes, or of all where there are fewer; it goes on from another sum.
-fn sum(s: &[u8], n: usize, from: Sums) -> Sums {
-    let mut a = from.a % 65521;
-    let mut b = from.b % 65521;
-    let mut i = 0;
-    while i < s.len() && i < n {
-        a = (a + stdio::wide(s[i])) % 65521;
-        b = (b + a) % 65521;
-        i += 1;
+pub fn made(m: Result<Made, Refusal>) -> Said {
+    match m {
+        Ok(m) => Said {
+            answer: Ok(m.step),
+            len: m.size.len,
+        },
+        Err(e) => step(Err(e)),
     }
-    Sums { a: a, b: b }
-}
-
-// Whether all bytes from a place on are the same.
-fn rest(s: &[u8], from: usize, byte: u8) -> bool {
-    if s.len() < from {
-        return true;
-    }
-    s[from..].iter().all(|x| *x == byte)
-}
-
-fn same(x: Sums, y: Sums) -> bool {
-    x.a == y.a && x.b == y.b
-}
-
-// Whether the slice begins with the bytes.
-fn begins(s: &[u8], want: &[u8]) -> bool {
-    let n = want.len();
-    if s.len() < n {
-        return false;
-    }
-    formula::same(&s[..n], want)
 }
 
 // Reads a result of n bytes: the output begins with it, and its other bytes stayed. An output that the call does not have is empty.
 pub fn written<R: Read>(input: &mut R, n: usize, out: &[u8]) -> io::Result<bool> {
     let mut space = [0u8; 4096];
-    let want: &[u8] = stdio::read_bytes(input, &mut space, n)?;
-    Ok(begins(out, want) && rest(out, n, FILL))
+    let want = stdio::read_bytes(input, &mut space, n)?;
+    let rest = out.strip_prefix(want);
+    Ok(rest.is_some_and(|rest| rest.iter().all(|x| *x == FILL)))
 }
 
 // Reads how many bytes of the ledger are given, and these: it begins with them.
 pub fn given<R: Read>(input: &mut R, l: &[u8]) -> io::Result<bool> {
     let n = stdio::read_number(input)?;
     let mut space = [0u8; 4096];
-    let want: &[u8] = stdio::read_bytes(input, &mut space, n)?;
-    Ok(begins(l, want))
+    let want = stdio::read_bytes(input, &mut space, n)?;
+    Ok(l.starts_with(want))
 }
 
-// The ledger's used bytes by their sum; the others are zero.
-pub fn ledger(l: &[u8], used: usize, want: Sums) -> bool {
-    let have = sum(l, used, Sums { a: 1, b: 0 });
-    same(have, want) && rest(l, used, 0)
+// The ledger's used bytes by their sums; the others are zero.
+pub fn ledger(l: &[u8], used: usize, sums: (usize, usize)) -> bool {
+    let (front, rest) = l.split_at(used.min(l.len()));
+    stdio::adler(front) == sums && rest.iter().all(|x| *x == 0)
 }

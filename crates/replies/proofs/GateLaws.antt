@@ -1,17 +1,17 @@
 -- Questions 1 to 4 as the gates answer them, and the replies of the model.
+use Rattle.std.specs.Prelude.{Result, Ok, Err}
 use mathlib.Core.Path.{◌≡◌, refl, sym, ap, ap₂, ◌∙◌}
 use mathlib.Core.Bool.{Bool, true, false, ◌&&◌, and-eq-true_iff}
 use mathlib.Core.Option.{Option, none, some}
 use mathlib.Core.List.{List}
-use Prim.Native.Nat.{ℕ, ◌≤◌, ◌<◌, max}
+use Prim.Native.Nat.{ℕ, max}
 use native.Mathlib.Omega.{arith}
 use lib.Dec.{leb}
 use borrow.Author.Tests.{leb-true, leb-false, le-leb, lt-leb}
 use Rattle.formula.specs.declared.Sort.{Sort}
+use Rattle.formula.specs.Answers.{size_read, measurement}
+use Rattle.formula.specs.declared.Size.{Size}
 use Rattle.formula.specs.Bytes.{Tree, read_all, nodes, bound, max_nodes, max_bound}
-use Rattle.formula.proofs.Measuring.{measured_as, measured}
-use Rattle.formula.specs.declared.Measured.{Measured}
-use Rattle.formula.specs.declared.Measured.TheVariants.{Formula, Ill as not-one}
 use Rattle.formula.proofs.Reading.{encode-read_all}
 use Rattle.calculus.specs.Judgement.{Step}
 use Rattle.calculus.specs.Rules.{AllBelow}
@@ -23,15 +23,10 @@ use Rattle.calculus.specs.Door.{Call, Task, task_of, outputs_of, every, refuse, 
 use Rattle.calculus.proofs.Doors.{unreadable, not-read, turned-away}
 use Rattle.calculus.proofs.Records.{ledger-read}
 use Rattle.ledger.specs.Ledger.{Led}
-use Rattle.ledger.specs.Checks.{said_checked, step_count}
-use Rattle.ledger.specs.declared.Checked.{Checked}
-use Rattle.ledger.specs.declared.Checked.TheVariants.{Steps, Ill}
 use Rattle.ledger.proofs.LedgerLaws.{holds-led}
 use Rattle.steps.specs.Trees.{Known}
 use Rattle.steps.proofs.TreeLaws.{known}
-use Rattle.replies.specs.declared.Gate.{Gate}
-use Rattle.replies.specs.declared.Gate.TheVariants.{Open, Shut}
-use Rattle.replies.specs.Asking.{limits_gate, ledger_gate, operand_gate, operands_gate}
+use Rattle.replies.specs.Asking.{Gate, limits_gate, ledger_gate, operand_gate, operands_gate}
 
 -- A number is at least both where it is at least the larger.
 pub leb-max : (a b n : ℕ) → leb (max a b) n ≡ (leb a n && leb b n)
@@ -42,26 +37,26 @@ leb-max a b n = go (leb a n) (leb b n) refl refl
     go true false p q = lt-leb (max a b) n (omega (arith, leb-false b n q))
     go false y p q = lt-leb (max a b) n (omega (arith, leb-false a n p))
 
-shut-same : {x y : Refusal} → Shut x ≡ Shut y → x ≡ y
+shut-same : {x y : Refusal} → ◌≡◌ {A = Gate} (Err x) (Err y) → x ≡ y
 shut-same e = cc
 
-open-shut : {A : Type 0} {x : Refusal} → Open ≡ Shut x → A
+open-shut : {A : Type 0} {x : Refusal} → ◌≡◌ {A = Gate} (Ok tt) (Err x) → A
 open-shut e = absurd (let z : ◌≡◌ {A = ℕ} 0 1 = cc in omega arith)
 
-shut_open : {A : Type 0} {x : Refusal} → Shut x ≡ Open → A
+shut_open : {A : Type 0} {x : Refusal} → ◌≡◌ {A = Gate} (Err x) (Ok tt) → A
 shut_open e = open-shut (sym e)
 
 -- The refusal that was found is the model's.
-refused_as : (c : Call) (l : List ℕ) (x : Refusal) {e : Refusal} → Shut x ≡ Shut e → reply c l ≡ refuse x l (outputs_of c) → reply c l ≡ refuse e l (outputs_of c)
+refused_as : (c : Call) (l : List ℕ) (x : Refusal) {e : Refusal} → ◌≡◌ {A = Gate} (Err x) (Err e) → reply c l ≡ refuse x l (outputs_of c) → reply c l ≡ refuse e l (outputs_of c)
 refused_as c l x h p = p ∙ ap (λ (y : Refusal). refuse y l (outputs_of c)) (shut-same h)
 
 limits-shut : (c : Call) (t : Task) (l : List ℕ) (L : List Step) (e : Refusal) → read_ledger l ≡ some L → task_of c ≡ some t → (x y : Bool) → every few_nodes t.operands ≡ x → every low_bound t.operands ≡ y
-    → limits_gate x y ≡ Shut e → reply c l ≡ refuse e l (outputs_of c)
+    → limits_gate x y ≡ Err e → reply c l ≡ refuse e l (outputs_of c)
 limits-shut c t l L e h i true true p q g = open-shut g
 limits-shut c t l L e h i true false p q g = refused_as c l LargeDimension g (turned-away c t LargeDimension l L h i (rw (p, q)))
 limits-shut c t l L e h i false y p q g = refused_as c l TooManyNodes g (turned-away c t TooManyNodes l L h i (rw p))
 
-limits_open : (x y : Bool) → limits_gate x y ≡ Open → (x ≡ true) × (y ≡ true)
+limits_open : (x y : Bool) → limits_gate x y ≡ Ok tt → (x ≡ true) × (y ≡ true)
 limits_open true true g = (refl, refl)
 limits_open true false g = shut_open g
 limits_open false y g = shut_open g
@@ -78,19 +73,19 @@ pub record OneOperand (c : Call) (s : Sort) (f : List ℕ) (low : Bool) : Type 0
   pub few : (t : Tree s) → every few_nodes (task t).operands ≡ leb (nodes s t) max_nodes
   pub lows : (t : Tree s) → every low_bound (task t).operands ≡ (low && leb (bound s t) max_bound)
 
-pub one-shut : {c : Call} {s : Sort} {f : List ℕ} {low : Bool} → OneOperand c s f low → (l : List ℕ) {e : Refusal} → ledger_gate (read_ledger l) (operand_gate s (read_all s f) low) ≡ Shut e
+pub one-shut : {c : Call} {s : Sort} {f : List ℕ} {low : Bool} → OneOperand c s f low → (l : List ℕ) {e : Refusal} → ledger_gate (read_ledger l) (operand_gate s (read_all s f) low) ≡ Err e
     → reply c l ≡ refuse e l (outputs_of c)
 one-shut {c} {s} {f} {low} w l {e} g = go (read_ledger l) refl (read_all s f) refl g
   where
-    go : (o : Option (List Step)) → read_ledger l ≡ o → (p : Option (Tree s)) → read_all s f ≡ p → ledger_gate o (operand_gate s p low) ≡ Shut e → reply c l ≡ refuse e l (outputs_of c)
+    go : (o : Option (List Step)) → read_ledger l ≡ o → (p : Option (Tree s)) → read_all s f ≡ p → ledger_gate o (operand_gate s p low) ≡ Err e → reply c l ≡ refuse e l (outputs_of c)
     go none h p i g = refused_as c l IllFormedLedger g (unreadable c l h)
     go (some L) h none i g = refused_as c l NotAFormula g (not-read c l L h (w.ill i))
     go (some L) h (some t) i g = limits-shut c (w.task t) l L e h (w.reads t i) (leb (nodes s t) max_nodes) (low && leb (bound s t) max_bound) (w.few t) (w.lows t) g
 
-pub one-open : (s : Sort) (f l : List ℕ) (low : Bool) → AllBelow 256 l → ledger_gate (read_ledger l) (operand_gate s (read_all s f) low) ≡ Open → Led l × Known s f × (low ≡ true)
+pub one-open : (s : Sort) (f l : List ℕ) (low : Bool) → AllBelow 256 l → ledger_gate (read_ledger l) (operand_gate s (read_all s f) low) ≡ Ok tt → Led l × Known s f × (low ≡ true)
 one-open s f l low a g = go (read_ledger l) refl (read_all s f) refl g
   where
-    go : (o : Option (List Step)) → read_ledger l ≡ o → (p : Option (Tree s)) → read_all s f ≡ p → ledger_gate o (operand_gate s p low) ≡ Open → Led l × Known s f × (low ≡ true)
+    go : (o : Option (List Step)) → read_ledger l ≡ o → (p : Option (Tree s)) → read_all s f ≡ p → ledger_gate o (operand_gate s p low) ≡ Ok tt → Led l × Known s f × (low ≡ true)
     go none h p i g = shut_open g
     go (some L) h none i g = shut_open g
     go (some L) h (some t) i g =
@@ -107,11 +102,11 @@ pub record TwoOperands (c : Call) (s : Sort) (f : List ℕ) (z : Sort) (g : List
   pub few : (t : Tree s) (u : Tree z) → every few_nodes (task t u).operands ≡ (leb (nodes s t) max_nodes && leb (nodes z u) max_nodes)
   pub lows : (t : Tree s) (u : Tree z) → every low_bound (task t u).operands ≡ (low && (leb (bound s t) max_bound && leb (bound z u) max_bound))
 
-pub two-shut : {c : Call} {s z : Sort} {f g : List ℕ} {low : Bool} → TwoOperands c s f z g low → (l : List ℕ) {e : Refusal} → ledger_gate (read_ledger l) (operands_gate s (read_all s f) z (read_all z g) low) ≡ Shut e
+pub two-shut : {c : Call} {s z : Sort} {f g : List ℕ} {low : Bool} → TwoOperands c s f z g low → (l : List ℕ) {e : Refusal} → ledger_gate (read_ledger l) (operands_gate s (read_all s f) z (read_all z g) low) ≡ Err e
     → reply c l ≡ refuse e l (outputs_of c)
 two-shut {c} {s} {z} {f} {g} {low} w l {e} k = go (read_ledger l) refl (read_all s f) refl (read_all z g) refl k
   where
-    go : (o : Option (List Step)) → read_ledger l ≡ o → (p : Option (Tree s)) → read_all s f ≡ p → (q : Option (Tree z)) → read_all z g ≡ q → ledger_gate o (operands_gate s p z q low) ≡ Shut e
+    go : (o : Option (List Step)) → read_ledger l ≡ o → (p : Option (Tree s)) → read_all s f ≡ p → (q : Option (Tree z)) → read_all z g ≡ q → ledger_gate o (operands_gate s p z q low) ≡ Err e
         → reply c l ≡ refuse e l (outputs_of c)
     go none h p i q j k = refused_as c l IllFormedLedger k (unreadable c l h)
     go (some L) h none i q j k = refused_as c l NotAFormula k (not-read c l L h (w.ill-left i))
@@ -119,11 +114,11 @@ two-shut {c} {s} {z} {f} {g} {low} w l {e} k = go (read_ledger l) refl (read_all
     go (some L) h (some t) i (some u) j k =
         limits-shut c (w.task t u) l L e h (w.reads t u i j) (leb (nodes s t) max_nodes && leb (nodes z u) max_nodes) (low && (leb (bound s t) max_bound && leb (bound z u) max_bound)) (w.few t u) (w.lows t u) k
 
-pub two-open : (s : Sort) (f : List ℕ) (z : Sort) (g l : List ℕ) (low : Bool) → AllBelow 256 l → ledger_gate (read_ledger l) (operands_gate s (read_all s f) z (read_all z g) low) ≡ Open
+pub two-open : (s : Sort) (f : List ℕ) (z : Sort) (g l : List ℕ) (low : Bool) → AllBelow 256 l → ledger_gate (read_ledger l) (operands_gate s (read_all s f) z (read_all z g) low) ≡ Ok tt
     → Led l × Known s f × Known z g × (low ≡ true)
 two-open s f z g l low a k = go (read_ledger l) refl (read_all s f) refl (read_all z g) refl k
   where
-    go : (o : Option (List Step)) → read_ledger l ≡ o → (p : Option (Tree s)) → read_all s f ≡ p → (q : Option (Tree z)) → read_all z g ≡ q → ledger_gate o (operands_gate s p z q low) ≡ Open
+    go : (o : Option (List Step)) → read_ledger l ≡ o → (p : Option (Tree s)) → read_all s f ≡ p → (q : Option (Tree z)) → read_all z g ≡ q → ledger_gate o (operands_gate s p z q low) ≡ Ok tt
         → Led l × Known s f × Known z g × (low ≡ true)
     go none h p i q j k = shut_open k
     go (some L) h none i q j k = shut_open k
@@ -135,58 +130,29 @@ two-open s f z g l low a k = go (read_ledger l) refl (read_all s f) refl (read_a
         let b = (and-eq-true_iff (leb (bound s t) max_bound) (leb (bound z u) max_bound)).0 y.1 in
         (holds-led (ledger-read l L a h), known_read s f t i n.0 b.0, known_read z g u j n.1 b.1, y.0)
 
--- The gates of the code ------------------------------------------------------------------------------
-
-module _ (n b : ℕ) (low : Bool) where
-  pub over-nodes : 511 < n → Shut TooManyNodes ≡ limits_gate (leb n max_nodes) (low && leb b max_bound)
-  over-nodes h = rw (lt-leb n 511 h) refl
-
-  pub over-number : n ≤ 511 → low ≡ false → Shut LargeDimension ≡ limits_gate (leb n max_nodes) (low && leb b max_bound)
-  over-number h e = rw (le-leb n 511 h, e) refl
-
-  pub over-bound : n ≤ 511 → low ≡ true → 255 < b → Shut LargeDimension ≡ limits_gate (leb n max_nodes) (low && leb b max_bound)
-  over-bound h e i = rw (le-leb n 511 h, e, lt-leb b 255 i) refl
-
-  pub all-kept : n ≤ 511 → low ≡ true → b ≤ 255 → Open ≡ limits_gate (leb n max_nodes) (low && leb b max_bound)
-  all-kept h e i = rw (le-leb n 511 h, e, le-leb b 255 i) refl
-
--- Question 1 by what the check counted.
-abbrev counted_gate : Checked → Gate → Gate
-counted_gate (Steps n) g = g
-counted_gate Ill g = Shut IllFormedLedger
-
-pub opened-by : (l : List ℕ) (g : Gate) {x y : Checked} → said_checked x ≡ step_count (read_ledger l) → x ≡ y → counted_gate y g ≡ ledger_gate (read_ledger l) g
-opened-by l g {y = y} e i = go (read_ledger l) y (sym (ap said_checked i) ∙ e)
-  where
-    go : (o : Option (List Step)) (y : Checked) → said_checked y ≡ step_count o → counted_gate y g ≡ ledger_gate o g
-    go none Ill e = refl
-    go none (Steps n) e = absurd (let z : ◌≡◌ {A = ℕ} 0 1 = cc in omega arith)
-    go (some L) Ill e = absurd (let z : ◌≡◌ {A = ℕ} 0 1 = cc in omega arith)
-    go (some L) (Steps n) e = refl
-
 -- Questions 2 to 4 by what was measured.
-abbrev size_gate : Measured → Bool → Gate
-size_gate (Formula z) low = limits_gate (leb z.nodes max_nodes) (low && leb z.bound max_bound)
-size_gate not-one low = Shut NotAFormula
+abbrev pub size_gate : Bool → Result Size Refusal → Gate
+size_gate low (Ok z) = limits_gate (leb z.nodes max_nodes) (low && leb z.bound max_bound)
+size_gate low (Err e) = Err e
 
-pub operand-by : (s : Sort) (f : List ℕ) (low : Bool) (m : Measured) → m ≡ measured s f → size_gate m low ≡ operand_gate s (read_all s f) low
-unfolding measured
-operand-by s f low m e = ap (λ (x : Measured). size_gate x low) e ∙ go (read_all s f)
+pub operand-by : (s : Sort) (f : List ℕ) (low : Bool) → size_gate low (measurement s f) ≡ operand_gate s (read_all s f) low
+unfolding measurement
+operand-by s f low = go (read_all s f)
   where
-    go : (o : Option (Tree s)) → size_gate (measured_as s o) low ≡ operand_gate s o low
+    go : (o : Option (Tree s)) → size_gate low (size_read s o) ≡ operand_gate s o low
     go none = refl
     go (some t) = refl
 
-abbrev sizes_gate : Measured → Measured → Bool → Gate
-sizes_gate (Formula z) (Formula y) low = limits_gate (leb (max z.nodes y.nodes) max_nodes) (low && leb (max z.bound y.bound) max_bound)
-sizes_gate (Formula z) not-one low = Shut NotAFormula
-sizes_gate not-one m low = Shut NotAFormula
+abbrev pub sizes_gate : Bool → Result Size Refusal → Result Size Refusal → Gate
+sizes_gate low (Ok z) (Ok y) = limits_gate (leb (max z.nodes y.nodes) max_nodes) (low && leb (max z.bound y.bound) max_bound)
+sizes_gate low (Ok z) (Err e) = Err e
+sizes_gate low (Err e) m = Err e
 
-pub operands-by : (s : Sort) (f : List ℕ) (z : Sort) (g : List ℕ) (low : Bool) (m n : Measured) → m ≡ measured s f → n ≡ measured z g → sizes_gate m n low ≡ operands_gate s (read_all s f) z (read_all z g) low
-unfolding measured
-operands-by s f z g low m n e i = ap₂ (λ (x y : Measured). sizes_gate x y low) e i ∙ go (read_all s f) (read_all z g)
+pub operands-by : (s : Sort) (f : List ℕ) (z : Sort) (g : List ℕ) (low : Bool) → sizes_gate low (measurement s f) (measurement z g) ≡ operands_gate s (read_all s f) z (read_all z g) low
+unfolding measurement
+operands-by s f z g low = go (read_all s f) (read_all z g)
   where
-    go : (o : Option (Tree s)) (p : Option (Tree z)) → sizes_gate (measured_as s o) (measured_as z p) low ≡ operands_gate s o z p low
+    go : (o : Option (Tree s)) (p : Option (Tree z)) → sizes_gate low (size_read s o) (size_read z p) ≡ operands_gate s o z p low
     go none none = refl
     go none (some u) = refl
     go (some t) none = refl

@@ -7,25 +7,10 @@ mod endings;
 pub use door::{one, two};
 pub use endings::{deliver, ending, with_size};
 use formula::Size;
-use refusals::Refusal;
 
-// The number of the step with the call's own judgement, or a refusal.
+// The number of the step with a call's own judgement, and the size of its result; both faces of a boundary have one size.
 #[derive(Clone, Copy)]
-pub enum Called {
-    Step(usize),
-    Refused(Refusal),
-}
-
-// The same of a call with a result, whose size is told; both faces of a boundary have one size.
-#[derive(Clone, Copy)]
-pub enum Made {
-    Step(usize, Size),
-    Refused(Refusal),
-}
-
-// Whether a call may go on, or why not.
-#[derive(Clone, Copy)]
-pub enum Gate {
-    Open,
-    Shut(Refusal),
+pub struct Made {
+    pub step: usize,
+    pub size: Size,
 }

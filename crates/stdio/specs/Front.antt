@@ -23,6 +23,13 @@ pub record Padded (had has : Option (List ℕ)) (b : List ℕ) : Type 0 where
   pub gathers : Gathers had has b count true
   pub zeros : All (λ x. x ≡ 0) (drop count b)
 
+-- the number of the first two bytes, the lowest first, and that of the next two
+abbrev pub low_value : List ℕ → ℕ
+low_value b = slice_index b 0 + 256 * slice_index b 1
+
+abbrev pub high_value : List ℕ → ℕ
+high_value b = slice_index b 2 + 256 * slice_index b 3
+
 -- the number of four bytes, the lowest first
 abbrev pub word_value : List ℕ → ℕ
-word_value b = slice_index b 0 + 256 * slice_index b 1 + 65536 * (slice_index b 2 + 256 * slice_index b 3)
+word_value b = low_value b + 65536 * high_value b

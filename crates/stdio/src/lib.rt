@@ -1,34 +1,12 @@
-// Text, numbers and bytes to a writer, numbers and bytes from a reader, and whole inputs: what the programs share.
+// Bytes in decimal to a writer, numbers and bytes from a reader, and whole inputs: what the programs share.
 #![tactic(auto)]
 
-ghost use Rattle.std.specs.Prelude.{◌≡◌, ◌<◌, ◌≤◌, ◌+◌, ◌-◌, ◌*◌, ◌++◌, [], ◌∷◌, length, slice_index, take, drop, true, ℕ, List, IfOk, OnOk, OnErr};
-ghost use Rattle.std.specs.Fmt.{decimal};
+ghost use Rattle.std.specs.Prelude.{◌≡◌, ◌<◌, ◌≤◌, ◌+◌, ◌-◌, ◌*◌, [], min, length, slice_index, take, drop, true, false, ℕ, List, IfOk, OnOk, OnErr};
 ghost use Rattle.std.specs.Io.KnownBytes.{Appends, Consumes, IsAtEnd, Keeps};
-ghost use Rattle.stdio.specs.Front.{IsPrefixLen, Gathers, spaced, Padded, word_value};
+ghost use Rattle.stdio.specs.Front.{IsPrefixLen, Gathers, spaced, Padded, word_value, low_value, high_value};
 
 use std::io;
 use std::io::{Read, Write};
-
-pub fn text<W: Write>(out: &mut W, t: &[u8]) -> io::Result<()>
-    ensures { OnOk result (Appends (W.contents out.old) (W.contents out.new) t.now) }
-{
-    out.write_all(t)
-}
-
-pub fn number<W: Write>(out: &mut W, n: usize) -> io::Result<()>
-    ensures { OnOk result (Appends (W.contents out.old) (W.contents out.new) (decimal n)) }
-{
-    write!(out, "{n}")
-}
-
-// The words and a number, as a line.
-pub fn line<W: Write>(out: &mut W, words: &[u8], n: usize) -> io::Result<()>
-    ensures { OnOk result (Appends (W.contents out.old) (W.contents out.new) (words.now ++ (decimal n ++ (10 ∷ [])))) }
-{
-    text(out, words)?;
-    number(out, n)?;
-    text(out, b"\n")
-}
 
 // Each byte in decimal, with a space before it.
 pub fn bytes<W: Write>(out: &mut W, b: &[u8]) -> io::Result<()>
@@ -45,29 +23,17 @@ pub fn first(s: &[u8], n: usize) -> &[u8]
     ensures front { n ≤ length s.now → result.now ≡ take n s.now }
     ensures none { length s.now < n → result.now ≡ [] }
 {
-    if n <= s.len() {
-        return &s[..n];
-    }
-    &s[..0]
+    s.get(..n).unwrap_or(&[])
 }
 
 // The first n bytes of a slice to write to, or all where it has fewer.
 pub fn part(s: &mut [u8], n: usize) -> &mut [u8] {
-    if n <= s.len() {
-        return &mut s[..n];
-    }
-    s
-}
-
-pub fn wide(b: u8) -> usize
-    ensures bound { result < 256 }
-    ensures value { result ≡ b }
-{
-    b as usize
+    let n = n.min(s.len());
+    &mut s[..n]
 }
 
 // Reads once, behind the first n bytes of the space; how many bytes stand there then, no more than before where the input has ended.
-fn read_behind<R: Read>(input: &mut R, space: &mut [u8], n: usize) -> io::Result<usize>
+pub fn read_more<R: Read>(input: &mut R, space: &mut [u8], n: usize) -> io::Result<usize>
     requires { n ≤ length space.old }
     ensures within { IfOk result (λ m. (n ≤ m) × (m ≤ length space.old)) }
     ensures front { take n space.new ≡ take n space.old }
@@ -79,20 +45,45 @@ fn read_behind<R: Read>(input: &mut R, space: &mut [u8], n: usize) -> io::Result
     Ok(n + got)
 }
 
-// Reads until the space is full or the input ends; how many bytes were read.
+// Reads until the space is full or the input ends; how many bytes were read. Where a read fails, what came before it stands
+// in front of the space.
 pub fn fill<R: Read>(input: &mut R, space: &mut [u8]) -> io::Result<usize>
     ensures within { IfOk result (λ n. IsPrefixLen n space.new) }
     ensures gathers { IfOk result (λ n. Gathers (R.remaining input.old) (R.remaining input.new) space.new n true) }
+    ensures err { OnErr result ((n : ℕ) × IsPrefixLen n space.new × Gathers (R.remaining input.old) (R.remaining input.new) space.new n false) }
 {
     let mut n: usize = 0;
     while n < space.len() {
-        let m = read_behind(input, space, n)?;
+        let m = read_more(input, space, n)?;
         if m == n {
             break;
         }
         n = m;
     }
     Ok(n)
+}
+
+// All of the input, as far as the space reaches.
+pub fn read_all<'a, R: Read>(input: &mut R, space: &'a mut [u8]) -> io::Result<&'a [u8]>
+    ensures within { IfOk result (λ r. length r.now ≤ length space.old) }
+    ensures took { IfOk result (λ r. Consumes (R.remaining input.old) (R.remaining input.new) r.now) }
+    ensures ended { IfOk result (λ r. length r.now < length space.old → IsAtEnd (R.remaining input.new)) }
+{
+    let n = fill(input, space)?;
+    Ok(&space[..n])
+}
+
+// Two sums of the bytes, as Adler's checksum has them.
+pub fn adler(s: &[u8]) -> (usize, usize)
+    ensures { (result.0 < 65521) × (result.1 < 65521) }
+{
+    let mut a: usize = 1;
+    let mut b: usize = 0;
+    for x in s {
+        a = (a + usize::from(*x)) % 65521;
+        b = (b + a) % 65521;
+    }
+    (a, b)
 }
 
 // The next four bytes of the input; zeros where it ends.
@@ -105,28 +96,21 @@ pub fn word<R: Read>(input: &mut R) -> io::Result<[u8; 4]>
     Ok(b)
 }
 
-// The first two bytes as a number, the lowest first.
-pub fn low(b: &[u8; 4]) -> usize
-    ensures bound { result < 65536 }
-    ensures value { result ≡ slice_index b.now 0 + 256 * slice_index b.now 1 }
-{
-    wide(b[0]) + 256 * wide(b[1])
-}
-
-// The last two.
-pub fn high(b: &[u8; 4]) -> usize
-    ensures bound { result < 65536 }
-    ensures value { result ≡ slice_index b.now 2 + 256 * slice_index b.now 3 }
-{
-    wide(b[2]) + 256 * wide(b[3])
-}
-
-// The next number of the input, of four bytes.
+// The next number of the input, of four bytes, the lowest first.
 pub fn read_number<R: Read>(input: &mut R) -> io::Result<usize>
     ensures { IfOk result (λ n. (b : List ℕ) × Padded (R.remaining input.old) (R.remaining input.new) b × (n ≡ word_value b)) }
 {
-    let b = word(input)?;
-    Ok(low(&b) + 65536 * high(&b))
+    Ok(u32::from_le_bytes(word(input)?) as usize)
+}
+
+// The next two numbers of the input, of two bytes each.
+pub fn read_pair<R: Read>(input: &mut R) -> io::Result<(usize, usize)>
+    ensures { IfOk result (λ p. (b : List ℕ) × Padded (R.remaining input.old) (R.remaining input.new) b × (p.0 ≡ low_value b) × (p.1 ≡ high_value b)) }
+{
+    let [a, b, c, d] = word(input)?;
+    let low = u16::from_le_bytes([a, b]);
+    let high = u16::from_le_bytes([c, d]);
+    Ok((usize::from(low), usize::from(high)))
 }
 
 // The next n bytes of the input, in the front of the space; all of the space where it is shorter.
@@ -142,53 +126,16 @@ pub fn read_bytes<'a, R: Read>(input: &mut R, space: &'a mut [u8], n: usize) -> 
     Ok(space)
 }
 
-// What was read: so many bytes, in front of the space, and whether no read failed.
-#[derive(Clone, Copy)]
-pub struct Content {
-    pub len: usize,
-    pub whole: bool,
-}
-
-// Reads once, behind the first n bytes; there are as many then where the input has ended or the read failed.
-pub fn read_more<R: Read>(input: &mut R, space: &mut [u8], n: usize) -> Content
-    requires { n ≤ length space.old }
-    ensures within { (n ≤ result.len) × (result.len ≤ length space.old) }
-    ensures front { take n space.new ≡ take n space.old }
-    ensures took { Consumes (R.remaining input.old) (R.remaining input.new) (take (result.len - n) (drop n space.new)) }
-    ensures ended { result.whole ≡ true → result.len ≡ n → n < length space.old → IsAtEnd (R.remaining input.new) }
+// So many zeros.
+pub fn zeros<const N: usize>() -> [u8; N]
+    ensures { N ≡ length result }
 {
-    match read_behind(input, space, n) {
-        Ok(len) => Content { len, whole: true },
-        Err(_) => Content {
-            len: n,
-            whole: false,
-        },
-    }
-}
-
-// Reads until the input ends, a read fails or the space is full: one read may bring fewer bytes than there are.
-pub fn read_all<R: Read>(input: &mut R, space: &mut [u8]) -> Content
-    ensures within { IsPrefixLen result.len space.new }
-    ensures gathers { Gathers (R.remaining input.old) (R.remaining input.new) space.new result.len result.whole }
-{
-    let mut n: usize = 0;
-    while n < space.len() {
-        let more = read_more(input, space, n);
-        let m = more.len;
-        if m == n {
-            return more;
-        }
-        n = m;
-    }
-    Content {
-        len: n,
-        whole: true,
-    }
+    [0; N]
 }
 
 // Room for a ledger, one byte more than the longest has, so that a longer one is refused and not cut.
 pub fn room() -> [u8; 1048577]
     ensures { 1048577 ≡ length result }
 {
-    [0; 1048577]
+    zeros()
 }

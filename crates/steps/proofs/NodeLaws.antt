@@ -1,8 +1,7 @@
 -- Emitters that go by the nodes of a formula: the steps of the parts, left first, then the step of the whole.
 use Prim.Native.Nat.{ℕ, ◌+◌, ◌<◌}
 use native.Mathlib.Omega.{arith}
-use mathlib.Core.Path.{◌≡◌, refl, sym, ap, ◌∙◌, subst, subst₂}
-use mathlib.Core.Bool.{true, false}
+use mathlib.Core.Path.{◌≡◌, refl, sym, ap, ◌∙◌, subst}
 use mathlib.Core.List.{List, [], ◌∷◌}
 use lib.ListN.{length, get_or, drop}
 use Rattle.formula.specs.declared.Sort.{Sort}
@@ -20,8 +19,9 @@ use Rattle.calculus.specs.Emit.{Program, emit, ◌>>=◌}
 use Rattle.calculus.specs.Calls.{side}
 use Rattle.calculus.proofs.Growing.{Limited}
 use Rattle.ledger.specs.Ledger.{steps_of}
-use Rattle.steps.specs.declared.Ran.{Ran}
-use Rattle.steps.specs.Running.{Book, done_by, step_by, Runs, Emits}
+use Rattle.std.specs.Prelude.{Ok, Err}
+use Rattle.steps.specs.declared.Stop.{Stop}
+use Rattle.steps.specs.Running.{Book, Ran, Runs, Emits}
 use Rattle.steps.specs.Trees.{Is, Known, Literal}
 use Rattle.steps.proofs.RunLaws.{runs-next, runs-stop, runs-below, runs-more, emits-by}
 use Rattle.steps.proofs.TreeLaws.{View, a-leaf, a-lit, a_one, a-two, view, tree-of, first_step}
@@ -104,48 +104,47 @@ module _ (s : Sort) (W : Tree s → Program) (J : Tree s → Judgement) (K : ℕ
         subst (λ (w : Program). Runs l w r l') (sym p.0) (emits-by h' p.1 [] refl tt m refl o)
 
     -- The part below a node over one formula, then the step of the whole.
-    pub one-stop : {l l₁ : Book} {f : List ℕ} {r : Ran} {q : Place} (t : Tree s) → View s f t (One q) → Runs l (W (tree_of s (drop 1 f))) r l₁ → done_by r ≡ false → Runs l (W t) r l₁
-    one-stop {l} {l₁} {r = r} t (a_one b u x e g h) k d =
-        let k' : Runs l (W x) r l₁ = subst (λ y. Runs l (W y) r l₁) (tree-of h) k in
-        subst (λ (w : Program). Runs l w r l₁) (sym (law-at b (one u) e x).0) (runs-stop (λ i. emit (K b) (i ∷ []) (J (u x))) k' d)
+    pub one-stop : {l l₁ : Book} {f : List ℕ} {e : Stop} {q : Place} (t : Tree s) → View s f t (One q) → Runs l (W (tree_of s (drop 1 f))) (Err e) l₁ → Runs l (W t) (Err e) l₁
+    one-stop {l} {l₁} {e = e} t (a_one b u x n g h) k =
+        let k' : Runs l (W x) (Err e) l₁ = subst (λ y. Runs l (W y) (Err e) l₁) (tree-of h) k in
+        subst (λ (w : Program). Runs l w (Err e) l₁) (sym (law-at b (one u) n x).0) (runs-stop (λ i. emit (K b) (i ∷ []) (J (u x))) k' refl)
 
-    pub one-runs : {l l₁ l₂ : Book} {f y : List ℕ} {r c : Ran} {i j z : ℕ} {q : Place} (t : Tree s) → View s f t (One q) → Limited (J t) → operand_bytes (J t) ≡ y
-        → Runs l (W (tree_of s (drop 1 f))) r l₁ → done_by r ≡ true → i ≡ step_by r → Emits l₁ (K (get_or f 0 0)) (i ∷ j ∷ z ∷ []) y c l₂ → Runs l (W t) c l₂
-    one-runs {l} {l₁} {l₂} {y = y} {r} {c} {i} {j} {z} t (a_one b u x e g h) m o k d n w =
-        let k' : Runs l (W x) r l₁ = subst (λ y. Runs l (W y) r l₁) (tree-of h) k in
-        let w' : Emits l₁ (K b) (step_by r ∷ j ∷ z ∷ []) y c l₂ = subst₂ (λ (a p : ℕ). Emits l₁ (K a) (p ∷ j ∷ z ∷ []) y c l₂) g n w in
+    pub one-runs : {l l₁ l₂ : Book} {f y : List ℕ} {c : Ran} {i j z : ℕ} {q : Place} (t : Tree s) → View s f t (One q) → Limited (J t) → operand_bytes (J t) ≡ y
+        → Runs l (W (tree_of s (drop 1 f))) (Ok i) l₁ → Emits l₁ (K (get_or f 0 0)) (i ∷ j ∷ z ∷ []) y c l₂ → Runs l (W t) c l₂
+    one-runs {l} {l₁} {l₂} {y = y} {c} {i} {j} {z} t (a_one b u x e g h) m o k w =
+        let k' : Runs l (W x) (Ok i) l₁ = subst (λ y. Runs l (W y) (Ok i) l₁) (tree-of h) k in
+        let w' : Emits l₁ (K b) (i ∷ j ∷ z ∷ []) y c l₂ = subst (λ (a : ℕ). Emits l₁ (K a) (i ∷ j ∷ z ∷ []) y c l₂) g w in
         let p = law-at b (one u) e x in
         subst (λ (v : Program). Runs l v c l₂) (sym p.0)
-        (runs-next (λ i. emit (K b) (i ∷ []) (J (u x))) k' d (emits-by w' p.1 (step_by r ∷ []) refl (runs-below k' d, tt) m refl o))
+        (runs-next (λ i. emit (K b) (i ∷ []) (J (u x))) k' refl (emits-by w' p.1 (i ∷ []) refl (runs-below k' refl, tt) m refl o))
 
     -- Both parts below a node over two formulas, left first, then the step of the whole.
-    pub two-stop : {l l₁ : Book} {f : List ℕ} {r : Ran} {q : Place} (t : Tree s) → View s f t (Two q) → Runs l (W (tree_of s (part_at s f 1))) r l₁ → done_by r ≡ false → Runs l (W t) r l₁
-    two-stop {l} {l₁} {r = r} t (a-two b v x y e g hx hy j) k d =
-        let k' : Runs l (W x) r l₁ = subst (λ z. Runs l (W z) r l₁) (tree-of hx) k in
-        subst (λ (w : Program). Runs l w r l₁) (sym (law-at b (two v) e x y).0) (runs-stop (λ i. (W y >>= λ k. emit (K b) (i ∷ k ∷ []) (J (v x y)))) k' d)
+    pub two-stop : {l l₁ : Book} {f : List ℕ} {e : Stop} {q : Place} (t : Tree s) → View s f t (Two q) → Runs l (W (tree_of s (part_at s f 1))) (Err e) l₁ → Runs l (W t) (Err e) l₁
+    two-stop {l} {l₁} {e = e} t (a-two b v x y n g hx hy j) k =
+        let k' : Runs l (W x) (Err e) l₁ = subst (λ z. Runs l (W z) (Err e) l₁) (tree-of hx) k in
+        subst (λ (w : Program). Runs l w (Err e) l₁) (sym (law-at b (two v) n x y).0) (runs-stop (λ i. (W y >>= λ k. emit (K b) (i ∷ k ∷ []) (J (v x y)))) k' refl)
 
-    pub two-stop-right : {l l₁ l₂ : Book} {f : List ℕ} {r c : Ran} {q : Place} (t : Tree s) → View s f t (Two q) → Runs l (W (tree_of s (part_at s f 1))) r l₁ → done_by r ≡ true
-        → Runs l₁ (W (tree_of s (drop (1 + length (part_at s f 1)) f))) c l₂ → done_by c ≡ false → Runs l (W t) c l₂
-    two-stop-right {l} {l₁} {l₂} {r = r} {c} t (a-two b v x y e g hx hy j) k d n p =
-        let k' : Runs l (W x) r l₁ = subst (λ z. Runs l (W z) r l₁) (tree-of hx) k in
-        let n' : Runs l₁ (W y) c l₂ = subst (λ z. Runs l₁ (W z) c l₂) (tree-of hy) n in
-        subst (λ (w : Program). Runs l w c l₂) (sym (law-at b (two v) e x y).0)
-        (runs-next (λ i. (W y >>= λ k. emit (K b) (i ∷ k ∷ []) (J (v x y)))) k' d (runs-stop (λ m. emit (K b) (step_by r ∷ m ∷ []) (J (v x y))) n' p))
+    pub two-stop-right : {l l₁ l₂ : Book} {f : List ℕ} {i : ℕ} {e : Stop} {q : Place} (t : Tree s) → View s f t (Two q) → Runs l (W (tree_of s (part_at s f 1))) (Ok i) l₁
+        → Runs l₁ (W (tree_of s (drop (1 + length (part_at s f 1)) f))) (Err e) l₂ → Runs l (W t) (Err e) l₂
+    two-stop-right {l} {l₁} {l₂} {i = i} {e} t (a-two b v x y n g hx hy j) k m =
+        let k' : Runs l (W x) (Ok i) l₁ = subst (λ z. Runs l (W z) (Ok i) l₁) (tree-of hx) k in
+        let m' : Runs l₁ (W y) (Err e) l₂ = subst (λ z. Runs l₁ (W z) (Err e) l₂) (tree-of hy) m in
+        subst (λ (w : Program). Runs l w (Err e) l₂) (sym (law-at b (two v) n x y).0)
+        (runs-next (λ i. (W y >>= λ k. emit (K b) (i ∷ k ∷ []) (J (v x y)))) k' refl (runs-stop (λ m. emit (K b) (i ∷ m ∷ []) (J (v x y))) m' refl))
 
-    pub two_runs : {l l₁ l₂ l₃ : Book} {f z : List ℕ} {r c a : Ran} {i m o : ℕ} {q : Place} (t : Tree s) → View s f t (Two q) → Limited (J t) → operand_bytes (J t) ≡ z
-        → Runs l (W (tree_of s (part_at s f 1))) r l₁ → done_by r ≡ true → Runs l₁ (W (tree_of s (drop (1 + length (part_at s f 1)) f))) c l₂ → done_by c ≡ true
-        → i ≡ step_by r → m ≡ step_by c → Emits l₂ (K (get_or f 0 0)) (i ∷ m ∷ o ∷ []) z a l₃ → Runs l (W t) a l₃
-    two_runs {l} {l₁} {l₂} {l₃} {z = z} {r} {c} {a} {i} {m} {o} t (a-two b v x y e g hx hy j) lim ops k d n p ei em w =
-        let k' : Runs l (W x) r l₁ = subst (λ z. Runs l (W z) r l₁) (tree-of hx) k in
-        let n' : Runs l₁ (W y) c l₂ = subst (λ z. Runs l₁ (W z) c l₂) (tree-of hy) n in
-        let w₁ : Emits l₂ (K b) (step_by r ∷ m ∷ o ∷ []) z a l₃ = subst₂ (λ (u p : ℕ). Emits l₂ (K u) (p ∷ m ∷ o ∷ []) z a l₃) g ei w in
-        let w₂ : Emits l₂ (K b) (step_by r ∷ step_by c ∷ o ∷ []) z a l₃ = subst (λ (p : ℕ). Emits l₂ (K b) (step_by r ∷ p ∷ o ∷ []) z a l₃) em w₁ in
+    pub two_runs : {l l₁ l₂ l₃ : Book} {f z : List ℕ} {a : Ran} {i m o : ℕ} {q : Place} (t : Tree s) → View s f t (Two q) → Limited (J t) → operand_bytes (J t) ≡ z
+        → Runs l (W (tree_of s (part_at s f 1))) (Ok i) l₁ → Runs l₁ (W (tree_of s (drop (1 + length (part_at s f 1)) f))) (Ok m) l₂
+        → Emits l₂ (K (get_or f 0 0)) (i ∷ m ∷ o ∷ []) z a l₃ → Runs l (W t) a l₃
+    two_runs {l} {l₁} {l₂} {l₃} {z = z} {a} {i} {m} {o} t (a-two b v x y e g hx hy j) lim ops k n w =
+        let k' : Runs l (W x) (Ok i) l₁ = subst (λ z. Runs l (W z) (Ok i) l₁) (tree-of hx) k in
+        let n' : Runs l₁ (W y) (Ok m) l₂ = subst (λ z. Runs l₁ (W z) (Ok m) l₂) (tree-of hy) n in
+        let w' : Emits l₂ (K b) (i ∷ m ∷ o ∷ []) z a l₃ = subst (λ (u : ℕ). Emits l₂ (K u) (i ∷ m ∷ o ∷ []) z a l₃) g w in
         let q = law-at b (two v) e x y in
-        let below : step_by r < length (steps_of l₂.bytes) = omega (arith, runs-below k' d, runs-more n') in
+        let below : i < length (steps_of l₂.bytes) = omega (arith, runs-below k' refl, runs-more n') in
         subst (λ (w : Program). Runs l w a l₃) (sym q.0)
-        (runs-next (λ i. (W y >>= λ k. emit (K b) (i ∷ k ∷ []) (J (v x y)))) k' d
-        (runs-next (λ m. emit (K b) (step_by r ∷ m ∷ []) (J (v x y))) n' p
-        (emits-by w₂ q.1 (step_by r ∷ step_by c ∷ []) refl (below, (runs-below n' p, tt)) lim refl ops)))
+        (runs-next (λ i. (W y >>= λ k. emit (K b) (i ∷ k ∷ []) (J (v x y)))) k' refl
+        (runs-next (λ m. emit (K b) (i ∷ m ∷ []) (J (v x y))) n' refl
+        (emits-by w' q.1 (i ∷ m ∷ []) refl (below, (runs-below n' refl, tt)) lim refl ops)))
 
 -- A run on a part of the bytes.
 pub part-runs : (s : Sort) {l l₁ : Book} {x y : List ℕ} {r : Ran} (W : Tree s → Program) → x ≡ y → Runs l (W (tree_of s x)) r l₁ → Runs l (W (tree_of s y)) r l₁

@@ -4,7 +4,7 @@ use native.Mathlib.Omega.{arith}
 use mathlib.Core.Path.{◌≡◌, refl, sym, ap, ◌∙◌, subst, subst₂}
 use mathlib.Core.Bool.{Bool, true, false}
 use mathlib.Core.Option.{Option, none, some}
-use mathlib.Core.List.{List, [], ◌∷◌, ◌++◌, append_assoc, append-nil}
+use mathlib.Core.List.{List, [], ◌∷◌, ◌++◌, append_assoc}
 use lib.ListN.{length, take, length-append}
 use Rattle.calculus.specs.Judgement.{Judgement, Step}
 use Rattle.calculus.specs.Table.{predicate, Listed}
@@ -16,13 +16,10 @@ use Rattle.calculus.proofs.Finding.{find-lowest}
 use Rattle.calculus.proofs.Growing.{Limited, limited-allowed}
 use Rattle.calculus.proofs.Repeating.{Longer, done-longer, stopped-longer, is-full, run-longer}
 use Rattle.ledger.specs.Ledger.{steps_of}
-use Rattle.emission.specs.Emitting.{StandsFor, Emission, Keeps, Ran as EmitRan}
-use Rattle.emission.specs.declared.Emitted.{Emitted}
-use Rattle.emission.specs.declared.Emitted.TheVariants.{Step as Number, Full as NoRoom}
 use Rattle.ledger.proofs.LedgerLaws.{holds-steps}
-use Rattle.steps.specs.declared.Ran.{Ran}
-use Rattle.steps.specs.declared.Ran.TheVariants.{Done, Full}
-use Rattle.steps.specs.Running.{Book, Kept, done_by, step_by, failed_by, Leaves, Grew, Ends, Runs, Emits}
+use Rattle.std.specs.Prelude.{Err}
+use Rattle.steps.specs.declared.Stop.TheVariants.{Full}
+use Rattle.steps.specs.Running.{Ran, Book, Kept, done_by, step_by, failed_by, Leaves, Grew, Ends, Runs, Emits}
 
 pub true-false : {A : Type 0} → true ≡ false → A
 true-false e = absurd (let z : ◌≡◌ {A = ℕ} 0 1 = cc in omega arith)
@@ -137,7 +134,7 @@ runs-below {l} {l₁} {p} {r} h d =
 -- One program, and another where it stops -----------------------------------------------------------
 
 abbrev pub Failed : Ran → Type 0
-Failed r = (done_by r ≡ false) × (r ≡ Full → ⊥)
+Failed r = (done_by r ≡ false) × (r ≡ Err Full → ⊥)
 
 pub attempt-done : {l l₁ l₂ : Book} {p : Program} {r s : Ran} (q : ℕ → Program) (t : Program) → Runs l p r l₁ → done_by r ≡ true → Runs l₁ (q (step_by r)) s l₂ → Runs l (attempt p q t) s l₂
 unfolding run
@@ -154,11 +151,11 @@ attempt-failed {l} {l₁} {l₂} {p} {r} {s} q t h f k = record { ends = go (run
     go (stopped x M) e = on-steps l l₁ l₂ s M t e.1 (runs-grew h) k
     go full e = absurd (f.1 e.0)
 
-pub attempt-full : {l l₁ : Book} {p : Program} (q : ℕ → Program) (t : Program) → Runs l p Full l₁ → Runs l (attempt p q t) Full l₁
+pub attempt-full : {l l₁ : Book} {p : Program} (q : ℕ → Program) (t : Program) → Runs l p (Err Full) l₁ → Runs l (attempt p q t) (Err Full) l₁
 unfolding run
 attempt-full {l} {l₁} {p} q t h = record { ends = go (run (within (length l.bytes)) p (steps_of l.bytes)) h.ends }
   where
-    go : (o : Outcome) → Ends l o Full l₁ → Ends l (instead o (λ n. run (within (length l.bytes)) (q n)) (run (within (length l.bytes)) t)) Full l₁
+    go : (o : Outcome) → Ends l o (Err Full) l₁ → Ends l (instead o (λ n. run (within (length l.bytes)) (q n)) (run (within (length l.bytes)) t)) (Err Full) l₁
     go (done n M) e = absurd (let z : ◌≡◌ {A = ℕ} 0 1 = cc in omega arith)
     go (stopped not-below M) e = absurd (let z : ◌≡◌ {A = ℕ} 0 1 = cc in omega arith)
     go (stopped not-implied M) e = absurd (let z : ◌≡◌ {A = ℕ} 0 1 = cc in omega arith)
@@ -176,35 +173,6 @@ pub emits-as : {l l' : Book} {kind : ℕ} {references operands : List ℕ} {r : 
     → Runs l (emit kind is j) r l'
 emits-as {kind} h is j k b m t e =
     h.rule (record { kind = kind; references = is; judgement = j }) (record { listed = k; earlier = b; limits = limited-allowed j m }) (record { kinds = refl; refers = sym t; judges = e })
-
--- The emit rule of the ledger as a run.
-module _ (l l' : Book) (start : Kept l) where
-  emitted-number : (o : Outcome) (i : ℕ) → Kept l' → EmitRan l.bytes o (Number i) l'.bytes → Ends l o (Done i) l'
-  emitted-number (done n M) i k e = (ap Done e.0, record { long = e.1; holds = e.2; kept = k })
-  emitted-number (stopped f M) i k e = absurd e
-  emitted-number full i k e = absurd e
-
-  emitted-full : (o : Outcome) → Kept l' → EmitRan l.bytes o NoRoom l'.bytes → Ends l o Full l'
-  emitted-full (done n M) k e = absurd e
-  emitted-full (stopped f M) k e = absurd e
-  emitted-full full k e = (refl, record { more = []; leaves = record { long = ap length e; holds = subst₂ Holds (sym e) (sym (append-nil (steps_of l.bytes))) start.led; kept = k } })
-
-  module _ (kind : ℕ) (references operands given : List ℕ) (same : given ≡ operands) (keeps : Keeps l.bytes kind references given l'.bytes l'.numbers) where
-    pub emits_number : (x : Emitted) (i : ℕ) → x ≡ Number i → Emission l.bytes kind references given x l'.bytes → Emits l kind references operands (Done i) l'
-    emits_number x i e g =
-        let h = subst (λ (y : Emitted). Emission l.bytes kind references given y l'.bytes) e g in
-        record {
-          rule = λ s f t. let u : StandsFor s kind (take (length s.references) references) given = record { kinds = t.kinds; refers = t.refers; judges = t.judges ∙ sym same } in
-              record { ends = emitted-number (run (within (length l.bytes)) (emit s.kind s.references s.judgement) (steps_of l.bytes)) i (keeps s f u) (h s f u) };
-        }
-
-    pub emits-full : (x : Emitted) → x ≡ NoRoom → Emission l.bytes kind references given x l'.bytes → Emits l kind references operands Full l'
-    emits-full x e g =
-        let h = subst (λ (y : Emitted). Emission l.bytes kind references given y l'.bytes) e g in
-        record {
-          rule = λ s f t. let u : StandsFor s kind (take (length s.references) references) given = record { kinds = t.kinds; refers = t.refers; judges = t.judges ∙ sym same } in
-              record { ends = emitted-full (run (within (length l.bytes)) (emit s.kind s.references s.judgement) (steps_of l.bytes)) (keeps s f u) (h s f u) };
-        }
 
 pub emits-same : {l l' : Book} {kind : ℕ} {references x y : List ℕ} {r : Ran} → x ≡ y → Emits l kind references x r l' → Emits l kind references y r l'
 emits-same {l} {l'} {kind} {references} {r} e h = subst (λ (z : List ℕ). Emits l kind references z r l') e h

@@ -2,7 +2,6 @@
 use Prim.Native.Nat.{ℕ, ◌+◌, ◌-◌, ◌<◌}
 use native.Mathlib.Omega.{arith}
 use mathlib.Core.Path.{◌≡◌, refl, sym, ap, ◌∙◌, subst}
-use mathlib.Core.Bool.{Bool, true, false}
 use mathlib.Core.List.{List, [], ◌∷◌}
 use lib.ListN.{length, get_or, drop}
 use Rattle.formula.specs.declared.Sort.{Sort}
@@ -15,10 +14,13 @@ use Rattle.calculus.specs.Judgement.{Judgement}
 use Rattle.calculus.specs.Record.{operand_bytes}
 use Rattle.calculus.specs.Emit.{Program}
 use Rattle.calculus.proofs.Growing.{Limited}
-use Rattle.steps.specs.declared.Ran.{Ran}
+use Rattle.std.specs.Prelude.{Result, Ok, Err, IfOk}
+use Rattle.std.proofs.lemmas.Result.{IfOk-weaker}
+use Rattle.steps.specs.declared.Stop.{Stop}
+use Rattle.steps.specs.declared.Walked.{Walked}
 use Rattle.steps.specs.declared.Paired.{Paired}
-use Rattle.steps.specs.Running.{Book, done_by, step_by, Runs, Emits}
-use Rattle.steps.specs.Walking.{StandsAt, tree_at, KnownAt, behind_at, span, inside_of, below_of, WalksBoth}
+use Rattle.steps.specs.Running.{Book, Ran, Runs, Emits}
+use Rattle.steps.specs.Walking.{StandsAt, tree_at, KnownAt, behind_at, span, inside_of, below_of, pair_ran, WalksBoth}
 use Rattle.steps.proofs.NodeLaws.{Law, AtOne, at_one, AtTwo, at-two, part-runs, leaf-runs, one-stop, one-runs, two-stop, two-stop-right, two_runs}
 use Rattle.steps.proofs.PlaceLaws.{at-inside, between-part, PairAt, pair-at, BelowAt, below_at, EndAt, OneAt, TwoAt}
 use Rattle.steps.proofs.ResultLaws.{Pairs, Singles}
@@ -36,29 +38,32 @@ module _ (s : Sort) (W : Tree s → Program) (J : Tree s → Judgement) (K : ℕ
       → Emits l (K (get_or w 0 0)) (i ∷ k ∷ z ∷ []) y r l' → Runs l (W (tree_at s f p)) r l'
   leaf-at v e m o h = leaf-runs s W J K laws (tree_at s f p) v.view m o (by_part K e h)
 
-  module _ {l l₁ : Book} {a : Ran} (v : OneAt s (tree_at s f p) f p q) (h : Runs l (W (tree_at s f q)) a l₁) where
-    pub one-at-stop : done_by a ≡ false → Runs l (W (tree_at s f p)) a l₁
-    one-at-stop d = one-stop s W J K laws (tree_at s f p) v.view (part-runs s W v.part h) d
+  module _ {l l₁ : Book} (v : OneAt s (tree_at s f p) f p q) where
+    pub one-at-stop : {e : Stop} → Runs l (W (tree_at s f q)) (Err e) l₁ → Runs l (W (tree_at s f p)) (Err e) l₁
+    one-at-stop h = one-stop s W J K laws (tree_at s f p) v.view (part-runs s W v.part h)
 
-    pub one-at-runs : {l₂ : Book} {w y : List ℕ} {c : Ran} {i j z : ℕ} → w ≡ part_at s f p.at → Limited (J (tree_at s f p)) → operand_bytes (J (tree_at s f p)) ≡ y → done_by a ≡ true → i ≡ step_by a
+    pub one-at-runs : {l₂ : Book} {w y : List ℕ} {c : Ran} {i j z : ℕ} → Runs l (W (tree_at s f q)) (Ok i) l₁ → w ≡ part_at s f p.at → Limited (J (tree_at s f p)) → operand_bytes (J (tree_at s f p)) ≡ y
         → Emits l₁ (K (get_or w 0 0)) (i ∷ j ∷ z ∷ []) y c l₂ → Runs l (W (tree_at s f p)) c l₂
-    one-at-runs e m o d g k = one-runs s W J K laws (tree_at s f p) v.view m o (part-runs s W v.part h) d g (by_part K e k)
+    one-at-runs h e m o k = one-runs s W J K laws (tree_at s f p) v.view m o (part-runs s W v.part h) (by_part K e k)
 
-  module _ {l l₁ : Book} {a : Ran} (v : TwoAt s (tree_at s f p) f p q) (h : Runs l (W (tree_at s f q)) a l₁) where
-    pub two-at-stop : done_by a ≡ false → Runs l (W (tree_at s f p)) a l₁
-    two-at-stop d = two-stop s W J K laws (tree_at s f p) v.view (part-runs s W v.left-part h) d
+  module _ {l l₁ : Book} (v : TwoAt s (tree_at s f p) f p q) where
+    pub two-at-stop : {e : Stop} → Runs l (W (tree_at s f q)) (Err e) l₁ → Runs l (W (tree_at s f p)) (Err e) l₁
+    two-at-stop h = two-stop s W J K laws (tree_at s f p) v.view (part-runs s W v.left-part h)
 
-    module _ {l₂ : Book} {b : Ran} {m : Place} (d : done_by a ≡ true) (e : m ≡ behind_at s f q) (k : Runs l₁ (W (tree_at s f m)) b l₂) where
-      pub two-at-stop-right : done_by b ≡ false → Runs l (W (tree_at s f p)) b l₂
-      two-at-stop-right g = two-stop-right s W J K laws (tree_at s f p) v.view (part-runs s W v.left-part h) d (part-runs s W v.right-part (along-place s W f e k)) g
+    module _ {l₂ : Book} {i : ℕ} {m : Place} (h : Runs l (W (tree_at s f q)) (Ok i) l₁) (e : m ≡ behind_at s f q) where
+      pub two-at-stop-right : {b : Stop} → Runs l₁ (W (tree_at s f m)) (Err b) l₂ → Runs l (W (tree_at s f p)) (Err b) l₂
+      two-at-stop-right k = two-stop-right s W J K laws (tree_at s f p) v.view (part-runs s W v.left-part h) (part-runs s W v.right-part (along-place s W f e k))
 
-      pub two-at-runs : {l₃ : Book} {w y : List ℕ} {c : Ran} {i j z : ℕ} → w ≡ part_at s f p.at → Limited (J (tree_at s f p)) → operand_bytes (J (tree_at s f p)) ≡ y → done_by b ≡ true → i ≡ step_by a → j ≡ step_by b
+      pub two-at-runs : {l₃ : Book} {w y : List ℕ} {c : Ran} {j z : ℕ} → Runs l₁ (W (tree_at s f m)) (Ok j) l₂ → w ≡ part_at s f p.at → Limited (J (tree_at s f p)) → operand_bytes (J (tree_at s f p)) ≡ y
           → Emits l₂ (K (get_or w 0 0)) (i ∷ j ∷ z ∷ []) y c l₃ → Runs l (W (tree_at s f p)) c l₃
-      two-at-runs u x o g i j n = two_runs s W J K laws (tree_at s f p) v.view x o (part-runs s W v.left-part h) d (part-runs s W v.right-part (along-place s W f e k)) g i j (by_part K u n)
+      two-at-runs k u x o n = two_runs s W J K laws (tree_at s f p) v.view x o (part-runs s W v.left-part h) (part-runs s W v.right-part (along-place s W f e k)) (by_part K u n)
 
--- A run is not both done and not.
-pub not-both : {A : Type 0} {b : Bool} → b ≡ true → b ≡ false → A
-not-both e f = absurd (let z : ◌≡◌ {A = ℕ} 0 1 = cc in omega arith)
+-- The place of a run that is done, by an equal one.
+pub moved-to : (r : Result Walked Stop) {m q : Place} → m ≡ q → IfOk r (λ w. w.place ≡ m) → IfOk r (λ w. w.place ≡ q)
+moved-to r e h = IfOk-weaker r _ _ (λ w d. d ∙ e) h
+
+pub both-moved-to : (r : Result Paired Stop) {m q n i : Place} → m ≡ q → n ≡ i → IfOk r (λ w. (w.place ≡ m) × (w.image ≡ n)) → IfOk r (λ w. (w.place ≡ q) × (w.image ≡ i))
+both-moved-to r e f h = IfOk-weaker r _ _ (λ w d. (d.0 ∙ e, d.1 ∙ f)) h
 
 -- The right part stands where the run over the left one has come, and the place behind it is the one behind the whole.
 module _ {s : Sort} {f : List ℕ} {p q m : Place} (v : TwoAt s (tree_at s f p) f p q) (e : m ≡ behind_at s f q) where
@@ -129,37 +134,39 @@ pub record Beside (s : Sort) (W : Tree s → Program) (J : Tree s → Judgement)
 
 module _ {s : Sort} {W : Tree s → Program} {J : Tree s → Judgement} {K : ℕ → ℕ} {O : List ℕ → Place → List ℕ} {f : List ℕ} {p u : Place} (b : Beside s W J K O f p u) where
   -- The step of the whole formula, which ends at m, and its image at n.
-  abbrev pub Ended : Book → ℕ → ℕ → Place → Place → Paired → Book → Type 0
-  Ended l i j m n r l' = Emits l (K (get_or (span p.at m f) 0 0)) (i ∷ j ∷ 0 ∷ []) (O (span p.at m f) n) r.ran l' × (r.place ≡ m) × (r.image ≡ n)
+  abbrev pub Ended : Book → ℕ → ℕ → Place → Place → Result Paired Stop → Book → Type 0
+  Ended l i j m n r l' = Emits l (K (get_or (span p.at m f) 0 0)) (i ∷ j ∷ 0 ∷ []) (O (span p.at m f) n) (pair_ran r) l' × IfOk r (λ x. (x.place ≡ m) × (x.image ≡ n))
 
   module _ {q : Place} where
-    pub leaf-both : {l l' : Book} {r : Paired} {i j : ℕ} {n : Place} → EndAt s (tree_at s f p) f p q (Leaf q) → n ≡ u → Ended l i j q n r l' → WalksBoth l (W (tree_at s f p)) (behind_at s f p) u r l'
-    leaf-both {n = n} v k w =
+    pub leaf-both : {l l' : Book} {r : Result Paired Stop} {i j : ℕ} {n : Place} → EndAt s (tree_at s f p) f p q (Leaf q) → n ≡ u → Ended l i j q n r l' → WalksBoth l (W (tree_at s f p)) (behind_at s f p) u r l'
+    leaf-both {r = r} {n = n} v k w =
         let e = between-part b.known refl v.end in
-        record { runs = leaf-at s W J K b.laws v e b.limited (b.operands (span p.at q f) n e k) w.0; moved = λ x. (w.1 ∙ v.end, w.2 ∙ k) }
+        record { runs = leaf-at s W J K b.laws v e b.limited (b.operands (span p.at q f) n e k) w.0; moved = both-moved-to r v.end k w.1 }
 
-    module _ {l l₁ : Book} {a : Paired} {u₁ : Place} (v : OneAt s (tree_at s f p) f p q) (g : WalksBoth l (W (tree_at s f q)) (behind_at s f q) u₁ a l₁) (k : u₁ ≡ u) where
-      pub one-both-stop : done_by a.ran ≡ false → WalksBoth l (W (tree_at s f p)) (behind_at s f p) u a l₁
-      one-both-stop d = record { runs = one-at-stop s W J K b.laws v g.runs d; moved = λ x. not-both x d }
+    module _ {l l₁ : Book} {u₁ : Place} (v : OneAt s (tree_at s f p) f p q) where
+      pub one-both-stop : {e : Stop} → WalksBoth l (W (tree_at s f q)) (behind_at s f q) u₁ (Err e) l₁ → WalksBoth l (W (tree_at s f p)) (behind_at s f p) u (Err e) l₁
+      one-both-stop g = record { runs = one-at-stop s W J K b.laws v g.runs; moved = tt }
 
-      pub one-both : {l₂ : Book} {r : Paired} {i j : ℕ} → done_by a.ran ≡ true → i ≡ step_by a.ran → Ended l₁ i j a.place a.image r l₂ → WalksBoth l (W (tree_at s f p)) (behind_at s f p) u r l₂
-      one-both d i w =
-          let m = (g.moved d).0 ∙ v.end in
-          let n = (g.moved d).1 ∙ k in
+      pub one-both : {l₂ : Book} {a : Paired} {r : Result Paired Stop} {j : ℕ} → WalksBoth l (W (tree_at s f q)) (behind_at s f q) u₁ (Ok a) l₁ → u₁ ≡ u → Ended l₁ a.step j a.place a.image r l₂
+          → WalksBoth l (W (tree_at s f p)) (behind_at s f p) u r l₂
+      one-both {a = a} {r} g k w =
+          let m = g.moved.0 ∙ v.end in
+          let n = g.moved.1 ∙ k in
           let e = between-part b.known refl m in
-          record { runs = one-at-runs s W J K b.laws v g.runs e b.limited (b.operands (span p.at a.place f) a.image e n) d i w.0; moved = λ x. (w.1 ∙ m, w.2 ∙ n) }
+          record { runs = one-at-runs s W J K b.laws v g.runs e b.limited (b.operands (span p.at a.place f) a.image e n) w.0; moved = both-moved-to r m n w.1 }
 
-    module _ {l l₁ : Book} {a : Paired} {u₁ : Place} (v : TwoAt s (tree_at s f p) f p q) (g : WalksBoth l (W (tree_at s f q)) (behind_at s f q) u₁ a l₁) where
-      pub two-both-stop : done_by a.ran ≡ false → WalksBoth l (W (tree_at s f p)) (behind_at s f p) u a l₁
-      two-both-stop d = record { runs = two-at-stop s W J K b.laws v g.runs d; moved = λ x. not-both x d }
+    module _ {l l₁ : Book} {u₁ : Place} (v : TwoAt s (tree_at s f p) f p q) where
+      pub two-both-stop : {e : Stop} → WalksBoth l (W (tree_at s f q)) (behind_at s f q) u₁ (Err e) l₁ → WalksBoth l (W (tree_at s f p)) (behind_at s f p) u (Err e) l₁
+      two-both-stop g = record { runs = two-at-stop s W J K b.laws v g.runs; moved = tt }
 
-      module _ {l₂ : Book} {c : Paired} {u₂ : Place} (d : done_by a.ran ≡ true) (g₂ : WalksBoth l₁ (W (tree_at s f a.place)) (behind_at s f a.place) u₂ c l₂) (k : u₂ ≡ u) where
-        pub two-both-stop-right : done_by c.ran ≡ false → WalksBoth l (W (tree_at s f p)) (behind_at s f p) u c l₂
-        two-both-stop-right o = record { runs = two-at-stop-right s W J K b.laws v g.runs d (g.moved d).0 g₂.runs o; moved = λ x. not-both x o }
+      module _ {l₂ : Book} {a : Paired} {u₂ : Place} (g : WalksBoth l (W (tree_at s f q)) (behind_at s f q) u₁ (Ok a) l₁) where
+        pub two-both-stop-right : {e : Stop} → WalksBoth l₁ (W (tree_at s f a.place)) (behind_at s f a.place) u₂ (Err e) l₂ → WalksBoth l (W (tree_at s f p)) (behind_at s f p) u (Err e) l₂
+        two-both-stop-right h = record { runs = two-at-stop-right s W J K b.laws v g.runs g.moved.0 h.runs; moved = tt }
 
-        pub two-both : {l₃ : Book} {r : Paired} {i j : ℕ} → done_by c.ran ≡ true → i ≡ step_by a.ran → j ≡ step_by c.ran → Ended l₂ i j c.place c.image r l₃ → WalksBoth l (W (tree_at s f p)) (behind_at s f p) u r l₃
-        two-both o i j w =
-            let m = two-end v (g.moved d).0 (g₂.moved o).0 in
-            let n = (g₂.moved o).1 ∙ k in
+        pub two-both : {l₃ : Book} {c : Paired} {r : Result Paired Stop} → WalksBoth l₁ (W (tree_at s f a.place)) (behind_at s f a.place) u₂ (Ok c) l₂ → u₂ ≡ u → Ended l₂ a.step c.step c.place c.image r l₃
+            → WalksBoth l (W (tree_at s f p)) (behind_at s f p) u r l₃
+        two-both {c = c} {r} h k w =
+            let m = two-end v g.moved.0 h.moved.0 in
+            let n = h.moved.1 ∙ k in
             let e = between-part b.known refl m in
-            record { runs = two-at-runs s W J K b.laws v g.runs d (g.moved d).0 g₂.runs e b.limited (b.operands (span p.at c.place f) c.image e n) o i j w.0; moved = λ x. (w.1 ∙ m, w.2 ∙ n) }
+            record { runs = two-at-runs s W J K b.laws v g.runs g.moved.0 h.runs e b.limited (b.operands (span p.at c.place f) c.image e n) w.0; moved = both-moved-to r m n w.1 }

@@ -1,5 +1,5 @@
 -- A program's run on a ledger's bytes: the answer and the bytes are those of the model's outcome.
-use Rattle.std.specs.Prelude.{◌≡◌, Bool, true, false, List, ◌++◌, ℕ, length, take}
+use Rattle.std.specs.Prelude.{◌≡◌, Bool, true, false, List, ◌++◌, ℕ, length, take, Result, Ok, Err}
 use Rattle.calculus.specs.Judgement.{Step}
 use Rattle.calculus.specs.Record.{FormedStep, Holds}
 use Rattle.calculus.specs.Emit.{Failure, not-below, not-implied, Program, emit, Outcome, done, stopped, full, within, run}
@@ -7,27 +7,29 @@ use Rattle.calculus.specs.Calls.{Order, less, at_most}
 use Rattle.ledger.specs.Ledger.{steps_of}
 use Rattle.emission.specs.Emitting.{StandsFor}
 use Rattle.index.specs.Index.{Indexed}
-use Rattle.steps.specs.declared.Ran.{Ran}
-use Rattle.steps.specs.declared.Ran.TheVariants.{Done, NotBelow, NotImplied, Full}
+use Rattle.steps.specs.declared.Stop.{Stop}
+use Rattle.steps.specs.declared.Stop.TheVariants.{NotBelow, NotImplied, Full}
+use Rattle.steps.specs.declared.Order.{Order as Asked}
+use Rattle.steps.specs.declared.Order.TheVariants.{Less, AtMost}
+
+-- How a run ends: with the number of a step, by refusal 8 or 9, or out of room.
+abbrev pub Ran : Type 0
+Ran = Result ℕ Stop
 
 -- Is a run done?
 abbrev pub done_by : Ran → Bool
-done_by (Done n) = true
-done_by NotBelow = false
-done_by NotImplied = false
-done_by Full = false
+done_by (Ok n) = true
+done_by (Err e) = false
 
 -- The number of the step of a run that is done.
 abbrev pub step_by : Ran → ℕ
-step_by (Done n) = n
-step_by NotBelow = 0
-step_by NotImplied = 0
-step_by Full = 0
+step_by (Ok n) = n
+step_by (Err e) = 0
 
 -- How a failure is answered.
 abbrev pub failed_by : Failure → Ran
-failed_by not-below = NotBelow
-failed_by not-implied = NotImplied
+failed_by not-below = Err NotBelow
+failed_by not-implied = Err NotImplied
 
 -- The bytes of a ledger and the numbers of its index.
 pub record Book : Type 0 where
@@ -54,9 +56,9 @@ pub record Grew (l l' : Book) : Type 0 where
 
 -- The answer and the bytes of an outcome.
 abbrev pub Ends : Book → Outcome → Ran → Book → Type 0
-Ends l (done n M) r l' = (r ≡ Done n) × Leaves l M l'
+Ends l (done n M) r l' = (r ≡ Ok n) × Leaves l M l'
 Ends l (stopped e M) r l' = (r ≡ failed_by e) × Leaves l M l'
-Ends l full r l' = (r ≡ Full) × Grew l l'
+Ends l full r l' = (r ≡ Err Full) × Grew l l'
 
 -- The answer and the bytes of a program's run over the steps of l, with the room that l has.
 pub record Runs (l : Book) (p : Program) (r : Ran) (l' : Book) : Type 0 where
@@ -74,6 +76,6 @@ pub record Emits (l : Book) (kind : ℕ) (references operands : List ℕ) (r : R
       → Runs l (emit s.kind s.references s.judgement) r l'
 
 -- The order of a comparison.
-abbrev pub order : Bool → Order
-order true = less
-order false = at_most
+abbrev pub order_of : Asked → Order
+order_of Less = less
+order_of AtMost = at_most

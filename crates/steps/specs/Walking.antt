@@ -1,14 +1,15 @@
 -- Runs that go over a formula: the place goes in by value and comes back behind it (document 01).
-use Rattle.std.specs.Prelude.{◌≡◌, true, List, ℕ, ◌+◌, ◌-◌, ◌≤◌, ◌<◌, length, take, drop}
+use Rattle.std.specs.Prelude.{◌≡◌, List, ℕ, ◌+◌, ◌-◌, ◌≤◌, ◌<◌, length, take, drop, Result, Ok, Err, IfOk}
 use Rattle.formula.specs.declared.Sort.{Sort}
 use Rattle.formula.specs.declared.Place.{Place}
 use Rattle.formula.specs.Bytes.{Tree}
 use Rattle.formula.specs.Answers.{part_at, tree_of}
 use Rattle.calculus.specs.Emit.{Program}
+use Rattle.steps.specs.declared.Stop.{Stop}
 use Rattle.steps.specs.declared.Walked.{Walked}
 use Rattle.steps.specs.declared.Paired.{Paired}
 use Rattle.steps.specs.Trees.{Is}
-use Rattle.steps.specs.Running.{Book, done_by, Runs}
+use Rattle.steps.specs.Running.{Book, Ran, Runs}
 
 -- The formula t, which keeps the limits, stands in the bytes from the place p on, and behind it a byte or more for each other formula that is pending there.
 pub record StandsAt (s : Sort) (t : Tree s) (l : List ℕ) (p : Place) : Type 0 where
@@ -46,12 +47,22 @@ inside_of p = record { at = p.at + 1; pending = p.pending + 1 }
 abbrev pub below_of : Place → Place
 below_of p = record { at = p.at + 1; pending = p.pending }
 
+-- How a run over a formula ended.
+abbrev pub walk_ran : Result Walked Stop → Ran
+walk_ran (Ok w) = Ok w.step
+walk_ran (Err e) = Err e
+
+-- How a run over a formula and its image ended.
+abbrev pub pair_ran : Result Paired Stop → Ran
+pair_ran (Ok w) = Ok w.step
+pair_ran (Err e) = Err e
+
 -- A program's run over a formula: where it is done, it has come to the place q.
-pub record Walks (l : Book) (p : Program) (q : Place) (r : Walked) (l' : Book) : Type 0 where
-  pub runs : Runs l p r.ran l'
-  pub moved : done_by r.ran ≡ true → r.place ≡ q
+pub record Walks (l : Book) (p : Program) (q : Place) (r : Result Walked Stop) (l' : Book) : Type 0 where
+  pub runs : Runs l p (walk_ran r) l'
+  pub moved : IfOk r (λ w. w.place ≡ q)
 
 -- The same over a formula and its image beside it.
-pub record WalksBoth (l : Book) (p : Program) (q i : Place) (r : Paired) (l' : Book) : Type 0 where
-  pub runs : Runs l p r.ran l'
-  pub moved : done_by r.ran ≡ true → (r.place ≡ q) × (r.image ≡ i)
+pub record WalksBoth (l : Book) (p : Program) (q i : Place) (r : Result Paired Stop) (l' : Book) : Type 0 where
+  pub runs : Runs l p (pair_ran r) l'
+  pub moved : IfOk r (λ w. (w.place ≡ q) × (w.image ≡ i))

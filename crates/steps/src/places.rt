@@ -2,7 +2,6 @@
 ghost use Rattle.std.specs.Prelude.{◌≡◌, ◌≤◌, ◌<◌, length};
 ghost use Rattle.steps.specs.Walking.{KnownAt, behind_at, span, Spans, inside_of, below_of};
 
-use crate::{Paired, Ran};
 use formula::{Place, Sort};
 
 // The bytes from `at` up to the place.
@@ -46,14 +45,5 @@ pub fn below(s: &[u8], p: Place) -> Place
     Place {
         at: p.at + 1,
         pending: p.pending,
-    }
-}
-
-// A run that no formula asks for.
-pub fn nowhere(p: Place, q: Place) -> Paired {
-    Paired {
-        ran: Ran::Full,
-        place: p,
-        image: q,
     }
 }

@@ -2,8 +2,7 @@
 use Prim.Native.Nat.{ℕ, zero, suc, ◌+◌, ◌≤◌, ◌<◌, compare, Ordering}
 use native.Mathlib.Omega.{arith}
 use mathlib.Core.Path.{◌≡◌, refl, sym, ap, ap₂, ◌∙◌, subst as along, subst₂ as along₂}
-use mathlib.Core.Bool.{true, false}
-use mathlib.Core.List.{List, [], ◌∷◌, ◌++◌, append-nil}
+use mathlib.Core.List.{List, [], ◌∷◌, ◌++◌}
 use lib.ListN.{length, get_or}
 use borrow.Author.Tests.{lt-ltb, le-ltb}
 use Rattle.formula.specs.declared.Sort.{Sort}
@@ -29,8 +28,9 @@ use Rattle.calculus.proofs.Ends.{fshift-at, fsubst-at, takes-0, takes-1, takes-n
 use Rattle.calculus.proofs.Growing.{Limited}
 use Rattle.calculus.proofs.Calling.{SmallOp, dim_to-small, itransform-dim}
 use Rattle.ledger.specs.Ledger.{steps_of}
-use Rattle.steps.specs.declared.Ran.{Ran}
-use Rattle.steps.specs.Running.{Book, done_by, step_by, Runs, Emits}
+use Rattle.std.specs.Prelude.{Ok, Err}
+use Rattle.steps.specs.declared.Stop.{Stop}
+use Rattle.steps.specs.Running.{Ran, Book, Runs, Emits}
 use Rattle.steps.specs.Trees.{Is, Known, Literal}
 use Rattle.transforms.specs.Transforms.{op_of, KnownOp, transform_bytes, first_kind, kind_gap, transform_kind}
 use Rattle.steps.proofs.RunLaws.{emits-by, emits-kind, runs-emit, runs-next, runs-stop, runs-below, runs-more}
@@ -110,17 +110,17 @@ unfolding emit_intervals
 dim-program o n c e = ap (emit_dimension o n) e
 
 -- A comparison, then its step.
-pub dim-stop : {l l₁ : Book} {f : List ℕ} {r : Ran} {n : ℕ} (o : Op) (c : Ordering) (p : Program) (κ : ℕ) → compare n (place_of o) ≡ c → emit_dimension o n c ≡ (p >>= λ i. emit κ (i ∷ []) (transforms Intervals o (dim n)))
-    → (t : Interval) → AtDim f n t → Runs l p r l₁ → done_by r ≡ false → Runs l (emit_intervals o t) r l₁
-dim-stop {l} {l₁} {r = r} {n} o c p κ e g t (at-dim b) h d =
-    along (λ (w : Program). Runs l w r l₁) (sym (dim-program o n c e ∙ g)) (runs-stop (λ i. emit κ (i ∷ []) (transforms Intervals o (dim n))) h d)
+pub dim-stop : {l l₁ : Book} {f : List ℕ} {x : Stop} {n : ℕ} (o : Op) (c : Ordering) (p : Program) (κ : ℕ) → compare n (place_of o) ≡ c → emit_dimension o n c ≡ (p >>= λ i. emit κ (i ∷ []) (transforms Intervals o (dim n)))
+    → (t : Interval) → AtDim f n t → Runs l p (Err x) l₁ → Runs l (emit_intervals o t) (Err x) l₁
+dim-stop {l} {l₁} {x = x} {n} o c p κ e g t (at-dim b) h =
+    along (λ (w : Program). Runs l w (Err x) l₁) (sym (dim-program o n c e ∙ g)) (runs-stop (λ i. emit κ (i ∷ []) (transforms Intervals o (dim n))) h refl)
 
-pub dim-runs : {l l₁ l₂ : Book} {f x : List ℕ} {r s : Ran} {n i j z : ℕ} (m : ℕ) (a : Asked) (o : Op) (c : Ordering) (p : Program) (κ : ℕ) (q : Judgement) → compare n (place_of o) ≡ c
+pub dim-runs : {l l₁ l₂ : Book} {f x : List ℕ} {s : Ran} {n i j z : ℕ} (m : ℕ) (a : Asked) (o : Op) (c : Ordering) (p : Program) (κ : ℕ) (q : Judgement) → compare n (place_of o) ≡ c
     → emit_dimension o n c ≡ (p >>= λ i. emit κ (i ∷ []) (transforms Intervals o (dim n))) → Rule κ (q ∷ []) (transforms Intervals o (dim n)) → transform_kind Intervals a 18 + m ≡ κ
-    → (t : Interval) → AtDim f n t → Limited (transforms Intervals o t) → operand_bytes (transforms Intervals o t) ≡ x → Runs l p r l₁ → done_by r ≡ true → i ≡ step_by r
+    → (t : Interval) → AtDim f n t → Limited (transforms Intervals o t) → operand_bytes (transforms Intervals o t) ≡ x → Runs l p (Ok i) l₁
     → Emits l₁ (transform_kind Intervals a (get_or f 0 0) + m) (i ∷ j ∷ z ∷ []) x s l₂ → Runs l (emit_intervals o t) s l₂
-dim-runs {l} {l₂ = l₂} {s = s} {n} m a o c p κ q e g rule k t (at-dim b) lim ops h d y w =
-    along (λ (w : Program). Runs l w s l₂) (sym (dim-program o n c e ∙ g)) (runs-emit h d y (emits-kind (ap (λ (v : ℕ). transform_kind Intervals a v + m) b ∙ k) w) rule lim ops)
+dim-runs {l} {l₂ = l₂} {s = s} {n} m a o c p κ q e g rule k t (at-dim b) lim ops h w =
+    along (λ (w : Program). Runs l w s l₂) (sym (dim-program o n c e ∙ g)) (runs-emit h refl refl (emits-kind (ap (λ (v : ℕ). transform_kind Intervals a v + m) b ∙ k) w) rule lim ops)
 
 -- The rules of a dimension.
 pub shift-below : (k n : ℕ) → n < k → Rule 51 (lt n k ∷ []) (transforms Intervals (shift k) (dim n))
@@ -222,39 +222,38 @@ unfolding itransform ftransform
 subst-literal k n t lo = fsubst-at lo
 subst-literal k n t hi = fsubst-at hi
 
-pub face-stop : {l l₁ : Book} {f : List ℕ} {r : Ran} {n : ℕ} (o : Op) (u : Face) → AtEnd f n u → Runs l (emit_intervals o (dim n)) r l₁ → done_by r ≡ false → Runs l (emit_faces o u) r l₁
+pub face-stop : {l l₁ : Book} {f : List ℕ} {x : Stop} {n : ℕ} (o : Op) (u : Face) → AtEnd f n u → Runs l (emit_intervals o (dim n)) (Err x) l₁ → Runs l (emit_faces o u) (Err x) l₁
 unfolding emit_faces
-face-stop {n = n} o u (at-end e g) h d = runs-stop (emit_literal o e n) h d
+face-stop {n = n} o u (at-end e g) h = runs-stop (emit_literal o e n) h refl
 
-pub face-shift : {l l₁ l₂ : Book} {f x : List ℕ} {r s : Ran} {n i j z : ℕ} (t : List ℕ) (a : Asked) (k : ℕ) → a ≡ DShift k → (u : Face) → AtEnd f n u → Limited (transforms Faces (op_of a t) u) → operand_bytes (transforms Faces (op_of a t) u) ≡ x
-    → Runs l (emit_intervals (op_of a t) (dim n)) r l₁ → done_by r ≡ true → i ≡ step_by r → Emits l₁ (transform_kind Faces a (get_or f 0 0) + 0) (i ∷ j ∷ z ∷ []) x s l₂ → Runs l (emit_faces (op_of a t) u) s l₂
+pub face-shift : {l l₁ l₂ : Book} {f x : List ℕ} {s : Ran} {n i j z : ℕ} (t : List ℕ) (a : Asked) (k : ℕ) → a ≡ DShift k → (u : Face) → AtEnd f n u → Limited (transforms Faces (op_of a t) u) → operand_bytes (transforms Faces (op_of a t) u) ≡ x
+    → Runs l (emit_intervals (op_of a t) (dim n)) (Ok i) l₁ → Emits l₁ (transform_kind Faces a (get_or f 0 0) + 0) (i ∷ j ∷ z ∷ []) x s l₂ → Runs l (emit_faces (op_of a t) u) s l₂
 unfolding emit_faces
-face-shift {f = f} {n = n} t (DShift k) m q u (at-end e g) lim ops h d y w =
-    runs-emit h d y (emits-kind (end-kind (λ (b : ℕ). transform_kind Faces (DShift k) b + 0) e (get_or f 0 0) 66 67 g refl refl) w) (shift-literal k n e) lim ops
-face-shift t (DSubst k) m q u v lim ops h d y w = absurd (let z : ◌≡◌ {A = ℕ} 0 1 = cc in omega arith)
+face-shift {f = f} {n = n} t (DShift k) m q u (at-end e g) lim ops h w =
+    runs-emit h refl refl (emits-kind (end-kind (λ (b : ℕ). transform_kind Faces (DShift k) b + 0) e (get_or f 0 0) 66 67 g refl refl) w) (shift-literal k n e) lim ops
+face-shift t (DSubst k) m q u v lim ops h w = absurd (let z : ◌≡◌ {A = ℕ} 0 1 = cc in omega arith)
 
 -- A substitution: the boundary of what the dimension becomes, then the literal's own step.
-pub face-subst-stop : {l l₁ l₂ : Book} {f : List ℕ} {r s : Ran} {n : ℕ} (t : List ℕ) (a : Asked) (k : ℕ) → a ≡ DSubst k → (u : Face) → AtEnd f n u
-    → Runs l (emit_intervals (op_of a t) (dim n)) r l₁ → done_by r ≡ true → Runs l₁ (emit_boundary (dim_to (op_of a t) n)) s l₂ → done_by s ≡ false → Runs l (emit_faces (op_of a t) u) s l₂
+pub face-subst-stop : {l l₁ l₂ : Book} {f : List ℕ} {x : Stop} {n i : ℕ} (t : List ℕ) (a : Asked) (k : ℕ) → a ≡ DSubst k → (u : Face) → AtEnd f n u
+    → Runs l (emit_intervals (op_of a t) (dim n)) (Ok i) l₁ → Runs l₁ (emit_boundary (dim_to (op_of a t) n)) (Err x) l₂ → Runs l (emit_faces (op_of a t) u) (Err x) l₂
 unfolding emit_faces
-face-subst-stop t (DShift k) m q u v h d b p = absurd (let z : ◌≡◌ {A = ℕ} 0 1 = cc in omega arith)
-face-subst-stop {r = r} {n = n} t (DSubst k) m q u (at-end e g) h d b p =
+face-subst-stop t (DShift k) m q u v h b = absurd (let z : ◌≡◌ {A = ℕ} 0 1 = cc in omega arith)
+face-subst-stop {n = n} {i} t (DSubst k) m q u (at-end e g) h b =
     let o = subst k (tree_of Intervals t) in
-    runs-next (emit_literal o e n) h d (runs-stop (λ j. emit (side e 72 73) (step_by r ∷ j ∷ []) (transforms Faces o (at e n))) b p)
+    runs-next (emit_literal o e n) h refl (runs-stop (λ j. emit (side e 72 73) (i ∷ j ∷ []) (transforms Faces o (at e n))) b refl)
 
-pub face-subst : {l l₁ l₂ l₃ : Book} {f x : List ℕ} {r c s : Ran} {n i j z : ℕ} (t : List ℕ) (a : Asked) (k : ℕ) → a ≡ DSubst k → (u : Face) → AtEnd f n u → Limited (transforms Faces (op_of a t) u) → operand_bytes (transforms Faces (op_of a t) u) ≡ x
-    → Runs l (emit_intervals (op_of a t) (dim n)) r l₁ → done_by r ≡ true → Runs l₁ (emit_boundary (dim_to (op_of a t) n)) c l₂ → done_by c ≡ true → i ≡ step_by r → j ≡ step_by c
+pub face-subst : {l l₁ l₂ l₃ : Book} {f x : List ℕ} {s : Ran} {n i j z : ℕ} (t : List ℕ) (a : Asked) (k : ℕ) → a ≡ DSubst k → (u : Face) → AtEnd f n u → Limited (transforms Faces (op_of a t) u) → operand_bytes (transforms Faces (op_of a t) u) ≡ x
+    → Runs l (emit_intervals (op_of a t) (dim n)) (Ok i) l₁ → Runs l₁ (emit_boundary (dim_to (op_of a t) n)) (Ok j) l₂
     → Emits l₂ (transform_kind Faces a (get_or f 0 0) + 0) (i ∷ j ∷ z ∷ []) x s l₃ → Runs l (emit_faces (op_of a t) u) s l₃
 unfolding emit_faces
-face-subst t (DShift k) m q u v lim ops h d b p y y' w = absurd (let z : ◌≡◌ {A = ℕ} 0 1 = cc in omega arith)
-face-subst {l₂ = l₂} {l₃} {f} {x} {r} {c} {s} {n} {z = z} t (DSubst k) m q u (at-end e g) lim ops h d b p y y' w =
+face-subst t (DShift k) m q u v lim ops h b w = absurd (let z : ◌≡◌ {A = ℕ} 0 1 = cc in omega arith)
+face-subst {l₂ = l₂} {l₃} {f} {x} {s} {n} {i} {j} {z} t (DSubst k) m q u (at-end e g) lim ops h b w =
     let o = subst k (tree_of Intervals t) in
-    let w₁ : Emits l₂ (side e 72 73) (_ ∷ _ ∷ z ∷ []) x s l₃ = emits-kind (end-kind (λ (b : ℕ). transform_kind Faces (DSubst k) b + 0) e (get_or f 0 0) 72 73 g refl refl) w in
-    let w₂ : Emits l₂ (side e 72 73) (step_by r ∷ step_by c ∷ z ∷ []) x s l₃ = along₂ (λ (v v' : ℕ). Emits l₂ (side e 72 73) (v ∷ v' ∷ z ∷ []) x s l₃) y y' w₁ in
-    let below : step_by r < length (steps_of l₂.bytes) = omega (arith, runs-below h d, runs-more b) in
-    runs-next (emit_literal o e n) h d
-    (runs-next (λ j. emit (side e 72 73) (step_by r ∷ j ∷ []) (transforms Faces o (at e n))) b p
-    (emits-by w₂ (subst-literal k n (tree_of Intervals t) e) (step_by r ∷ step_by c ∷ []) refl (below, (runs-below b p, tt)) lim refl ops))
+    let w' : Emits l₂ (side e 72 73) (i ∷ j ∷ z ∷ []) x s l₃ = emits-kind (end-kind (λ (b : ℕ). transform_kind Faces (DSubst k) b + 0) e (get_or f 0 0) 72 73 g refl refl) w in
+    let below : i < length (steps_of l₂.bytes) = omega (arith, runs-below h refl, runs-more b) in
+    runs-next (emit_literal o e n) h refl
+    (runs-next (λ j. emit (side e 72 73) (i ∷ j ∷ []) (transforms Faces o (at e n))) b refl
+    (emits-by w' (subst-literal k n (tree_of Intervals t) e) (i ∷ j ∷ []) refl (below, (runs-below b refl, tt)) lim refl ops))
 
 -- What is known, and what is run, where the operation or the sort is told.
 pub told_is : {out : List ℕ} (f t : List ℕ) (s : Sort) (a b : Asked) → a ≡ b → Is s (transform s (op_of a t) (tree_of s f)) out → Is s (transform s (op_of b t) (tree_of s f)) out
@@ -305,6 +304,5 @@ known-subst t o k e h = along (λ (x : Asked). KnownOp x t) e h
 pub shift-operands : (f t out x : List ℕ) (o : Asked) (k : ℕ) → o ≡ DShift k → x ≡ dim_bytes k → f ++ (x ++ out) ≡ transform_bytes o f t out
 shift-operands f t out x o k e h = ap (λ (y : List ℕ). f ++ (y ++ out)) h ∙ ap (λ (y : Asked). transform_bytes y f t out) (sym e)
 
-pub subst-operands : (f t out x z : List ℕ) (o : Asked) (k : ℕ) → o ≡ DSubst k → x ≡ dim_bytes k → z ≡ [] → f ++ (x ++ (t ++ (out ++ z))) ≡ transform_bytes o f t out
-subst-operands f t out x z o k e h g =
-    ap₂ (λ (y w : List ℕ). f ++ (y ++ (t ++ w))) h (ap (λ (y : List ℕ). out ++ y) g ∙ append-nil out) ∙ ap (λ (y : Asked). transform_bytes y f t out) (sym e)
+pub subst-operands : (f t out x : List ℕ) (o : Asked) (k : ℕ) → o ≡ DSubst k → x ≡ dim_bytes k → f ++ (x ++ (t ++ out)) ≡ transform_bytes o f t out
+subst-operands f t out x o k e h = ap (λ (y : List ℕ). f ++ (y ++ (t ++ out))) h ∙ ap (λ (y : Asked). transform_bytes y f t out) (sym e)

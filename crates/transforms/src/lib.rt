@@ -1,20 +1,33 @@
 // The judgements of a transformed formula, beside the bytes of the result.
 #![tactic(auto)]
 
-ghost use Rattle.std.specs.Prelude.{◌≡◌, [], ◌∷◌, ◌+◌, ◌≤◌, ◌<◌, length, get_or, take};
+ghost use Rattle.std.specs.Prelude.{◌≡◌, [], ◌∷◌, ◌+◌, ◌≤◌, ◌<◌, length, get_or, take, IfOk};
 ghost use Rattle.formula.specs.Operations.{shift, subst};
 ghost use Rattle.formula.specs.Bytes.{encode};
 ghost use Rattle.calculus.specs.Calls.{transform as transform_of, emit_boundary, emit_intervals, emit_faces, emit_transform};
 ghost use Rattle.index.specs.Index.{Indexed};
-ghost use Rattle.steps.specs.Running.{book, Runs, Emits};
+ghost use Rattle.steps.specs.Running.{book, Emits};
+ghost use Rattle.steps.specs.Producing.{RunsFor, WalksBothFor};
 ghost use Rattle.steps.specs.Trees.{Is, Known, Literal};
 ghost use Rattle.formula.specs.Answers.{part_at, tree_of};
-ghost use Rattle.steps.specs.Walking.{StandsAt, tree_at, KnownAt, behind_at, span, Spans, WalksBoth};
+ghost use Rattle.steps.specs.Walking.{StandsAt, tree_at, KnownAt, behind_at, span, Spans, pair_ran};
 ghost use Rattle.transforms.specs.Transforms.{op_of, KnownOp, transform_bytes, first_kind, kind_gap, transform_kind};
 
-use formula::{Advance, Place, Sized, Sort};
+use formula::{Advance, Place, Sort};
 use operations::Op;
-use steps::{Paired, Ran};
+use steps::{Order, Paired, Producer, Ran, Stop};
+
+// The byte that a dimension begins with.
+const DIMENSION_BYTE: u8 = 18;
+
+// The rules of a dimension, in the order of their kinds: of a shift, below the place and from it on; of a substitution, below the place, at it and above it.
+const BELOW: usize = 0;
+
+const SHIFTED: usize = 1;
+
+const HIT: usize = 1;
+
+const ABOVE: usize = 2;
 
 // Where the kinds of the rules begin.
 fn first_kind(sort: Sort, op: Op) -> usize
@@ -47,7 +60,7 @@ fn transform_kind(sort: Sort, op: Op, b: u8, more: usize) -> usize
     requires { more ≤ 2 }
     ensures { result ≡ transform_kind sort op b + more }
 {
-    let n = b as usize;
+    let n = usize::from(b);
     let first = first_kind(sort, op);
     if n < 19 {
         return n + first + more;
@@ -56,14 +69,14 @@ fn transform_kind(sort: Sort, op: Op, b: u8, more: usize) -> usize
 }
 
 // The step of the whole formula by the rule `more` after the first, from those of its parts.
-fn transform_whole(
+fn transform_whole<'a>(
     l: &mut [u8],
     ix: &mut [u32],
     sort: Sort,
     op: Op,
-    f: &[u8],
-    t: &[u8],
-    out: &[u8],
+    f: &'a [u8],
+    t: &'a [u8],
+    out: &'a [u8],
     more: usize,
     i: usize,
     j: usize,
@@ -73,130 +86,67 @@ fn transform_whole(
 {
     let kind = transform_kind(sort, op, f[0], more);
     match op {
-        Op::DShift(k) => steps::emit3(l, ix, kind, [i, j, 0], f, &steps::number(k), out),
-        Op::DSubst(k) => steps::emit(
-            l,
-            ix,
-            kind,
-            [i, j, 0],
-            f,
-            &steps::number(k),
-            t,
-            out,
-            &out[..0],
-        ),
+        Op::DShift(k) => steps::emit(l, ix, kind, [i, j, 0], &[f, &steps::number(k), out]),
+        Op::DSubst(k) => steps::emit(l, ix, kind, [i, j, 0], &[f, &steps::number(k), t, out]),
     }
 }
 
-// The steps of a shifted dimension n: its comparison with k, and its own.
-fn shift_dimension(l: &mut [u8], ix: &mut [u32], k: usize, n: usize, f: &[u8], out: &[u8]) -> Ran
-    requires { Indexed l.old ix.old × Known Sort.Intervals f.now × (k < 255) × Literal Sort.Intervals n f.now × Is Sort.Intervals (transform_of Sort.Intervals (shift k) (tree_of Sort.Intervals f.now)) out.now }
-    ensures { Runs (book l.old ix.old) (emit_intervals (shift k) (tree_of Sort.Intervals f.now)) result (book l.new ix.new) }
-{
-    if n < k {
-        let r = steps::comparison(l, ix, true, n, k);
-        if !steps::is_done(r) {
-            return r;
-        }
-        return transform_whole(
-            l,
-            ix,
-            Sort::Intervals,
-            Op::DShift(k),
-            f,
-            f,
-            out,
-            0,
-            steps::step_of(r),
-            0,
-        );
-    }
-    let r = steps::comparison(l, ix, false, k, n);
-    if !steps::is_done(r) {
-        return r;
-    }
-    transform_whole(
-        l,
-        ix,
-        Sort::Intervals,
-        Op::DShift(k),
-        f,
-        f,
-        out,
-        1,
-        steps::step_of(r),
-        0,
-    )
-}
-
-// The steps of a dimension n where t is substituted at k: a comparison where they differ, and its own.
-fn subst_dimension(
-    l: &mut [u8],
-    ix: &mut [u32],
-    k: usize,
-    n: usize,
-    f: &[u8],
-    t: &[u8],
-    out: &[u8],
-) -> Ran
-    requires { Indexed l.old ix.old × Known Sort.Intervals f.now × ((k < 255) × Known Sort.Intervals t.now) × Literal Sort.Intervals n f.now × Is Sort.Intervals (transform_of Sort.Intervals (subst k (tree_of Sort.Intervals t.now)) (tree_of Sort.Intervals f.now)) out.now }
-    ensures { Runs (book l.old ix.old) (emit_intervals (subst k (tree_of Sort.Intervals t.now)) (tree_of Sort.Intervals f.now)) result (book l.new ix.new) }
-{
-    if n == k {
-        return transform_whole(l, ix, Sort::Intervals, Op::DSubst(k), f, t, out, 1, 0, 0);
-    }
-    if n < k {
-        let r = steps::comparison(l, ix, true, n, k);
-        if !steps::is_done(r) {
-            return r;
-        }
-        return transform_whole(
-            l,
-            ix,
-            Sort::Intervals,
-            Op::DSubst(k),
-            f,
-            t,
-            out,
-            0,
-            steps::step_of(r),
-            0,
-        );
-    }
-    let r = steps::comparison(l, ix, true, k, n);
-    if !steps::is_done(r) {
-        return r;
-    }
-    transform_whole(
-        l,
-        ix,
-        Sort::Intervals,
-        Op::DSubst(k),
-        f,
-        t,
-        out,
-        2,
-        steps::step_of(r),
-        0,
-    )
-}
-
-// The steps of a dimension n, by the operation.
-fn transform_dimension(
+// The step of a dimension by the rule `more` after the first, from that of its comparison.
+fn dimension_whole(
     l: &mut [u8],
     ix: &mut [u32],
     op: Op,
-    n: usize,
     f: &[u8],
     t: &[u8],
     out: &[u8],
+    more: usize,
+    i: usize,
 ) -> Ran
-    requires { Indexed l.old ix.old × Known Sort.Intervals f.now × KnownOp op t.now × Literal Sort.Intervals n f.now × Is Sort.Intervals (transform_of Sort.Intervals (op_of op t.now) (tree_of Sort.Intervals f.now)) out.now }
-    ensures { Runs (book l.old ix.old) (emit_intervals (op_of op t.now) (tree_of Sort.Intervals f.now)) result (book l.new ix.new) }
+    requires { Indexed l.old ix.old × (0 < length f.now) × (length f.now ≤ 1022) × (length out.now ≤ 1022) × KnownOp op t.now × (more ≤ 2) }
+    ensures { Emits (book l.old ix.old) (transform_kind Sort.Intervals op (get_or f.now 0 0) + more) (i ∷ 0 ∷ 0 ∷ []) (transform_bytes op f.now t.now out.now) result (book l.new ix.new) }
+{
+    transform_whole(l, ix, Sort::Intervals, op, f, t, out, more, i, 0)
+}
+
+// The steps of a shifted dimension n: its comparison with k, and its own.
+fn shift_dimension(p: &mut Producer, k: usize, n: usize, f: &[u8], out: &[u8]) -> Ran
+    requires { Known Sort.Intervals f.now × (k < 255) × Literal Sort.Intervals n f.now × Is Sort.Intervals (transform_of Sort.Intervals (shift k) (tree_of Sort.Intervals f.now)) out.now }
+    ensures { RunsFor p.old (emit_intervals (shift k) (tree_of Sort.Intervals f.now)) result p.new }
+{
+    let op = Op::DShift(k);
+    if n < k {
+        let i = steps::comparison(p, Order::Less, n, k)?;
+        return dimension_whole(p.ledger, p.index, op, f, f, out, BELOW, i);
+    }
+    let i = steps::comparison(p, Order::AtMost, k, n)?;
+    dimension_whole(p.ledger, p.index, op, f, f, out, SHIFTED, i)
+}
+
+// The steps of a dimension n where t is substituted at k: a comparison where they differ, and its own.
+fn subst_dimension(p: &mut Producer, k: usize, n: usize, f: &[u8], t: &[u8], out: &[u8]) -> Ran
+    requires { Known Sort.Intervals f.now × ((k < 255) × Known Sort.Intervals t.now) × Literal Sort.Intervals n f.now × Is Sort.Intervals (transform_of Sort.Intervals (subst k (tree_of Sort.Intervals t.now)) (tree_of Sort.Intervals f.now)) out.now }
+    ensures { RunsFor p.old (emit_intervals (subst k (tree_of Sort.Intervals t.now)) (tree_of Sort.Intervals f.now)) result p.new }
+{
+    let op = Op::DSubst(k);
+    if n == k {
+        return dimension_whole(p.ledger, p.index, op, f, t, out, HIT, 0);
+    }
+    if n < k {
+        let i = steps::comparison(p, Order::Less, n, k)?;
+        return dimension_whole(p.ledger, p.index, op, f, t, out, BELOW, i);
+    }
+    let i = steps::comparison(p, Order::Less, k, n)?;
+    dimension_whole(p.ledger, p.index, op, f, t, out, ABOVE, i)
+}
+
+// The steps of a dimension n, by the operation.
+fn transform_dimension(p: &mut Producer, op: Op, n: usize, f: &[u8], t: &[u8], out: &[u8]) -> Ran
+    requires { Known Sort.Intervals f.now × KnownOp op t.now × Literal Sort.Intervals n f.now × Is Sort.Intervals (transform_of Sort.Intervals (op_of op t.now) (tree_of Sort.Intervals f.now)) out.now }
+    ensures { RunsFor p.old (emit_intervals (op_of op t.now) (tree_of Sort.Intervals f.now)) result p.new }
 {
     match op {
-        Op::DShift(k) => shift_dimension(l, ix, k, n, f, out),
-        Op::DSubst(k) => subst_dimension(l, ix, k, n, f, t, out),
+        Op::DShift(k) => shift_dimension(p, k, n, f, out),
+        Op::DSubst(k) => subst_dimension(p, k, n, f, t, out),
     }
 }
 
@@ -206,67 +156,50 @@ fn image(op: Op, r: &[u8], t: &[u8], out: &mut [u8]) -> usize
     ensures { (result ≤ length out.new) × Is Sort.Intervals (transform_of Sort.Intervals (op_of op t.now) (tree_of Sort.Intervals r.now)) (take result out.new) }
 {
     match operations::transform(Sort::Intervals, op, r, t, out) {
-        Sized::Fits(z) => z.len,
-        Sized::Refused(_) => 0,
+        Ok(z) => z.len,
+        Err(_) => 0,
     }
 }
 
 // The steps of an interval's boundary, whose two faces are made here. They keep the limits, so there is always a result.
-fn boundary_steps(l: &mut [u8], ix: &mut [u32], r: &[u8]) -> Ran
-    requires { Indexed l.old ix.old × Known Sort.Intervals r.now }
-    ensures { Runs (book l.old ix.old) (emit_boundary (tree_of Sort.Intervals r.now)) result (book l.new ix.new) }
+fn boundary_steps(p: &mut Producer, r: &[u8]) -> Ran
+    requires { Known Sort.Intervals r.now }
+    ensures { RunsFor p.old (emit_boundary (tree_of Sort.Intervals r.now)) result p.new }
 {
     let mut zero = [0u8; 1024];
     let mut one = [0u8; 1024];
     match operations::boundary(r, &mut zero, &mut one) {
-        Sized::Fits(z) => {
+        Ok(z) => {
             let m = z.len;
             let a = &zero[..m];
             let b = &one[..m];
-            boundary_steps::boundary(l, ix, r, a, b)
+            boundary_steps::boundary(p, r, a, b)
         }
-        Sized::Refused(_) => Ran::Full,
+        Err(_) => Err(Stop::Full),
     }
 }
 
 // The steps of a face literal on n: of its dimension, in a substitution of the boundary of what that becomes, and its own.
-fn face_literal(
-    l: &mut [u8],
-    ix: &mut [u32],
-    op: Op,
-    n: usize,
-    f: &[u8],
-    t: &[u8],
-    out: &[u8],
-) -> Ran
-    requires { Indexed l.old ix.old × Known Sort.Faces f.now × KnownOp op t.now × Literal Sort.Faces n f.now × Is Sort.Faces (transform_of Sort.Faces (op_of op t.now) (tree_of Sort.Faces f.now)) out.now }
-    ensures { Runs (book l.old ix.old) (emit_faces (op_of op t.now) (tree_of Sort.Faces f.now)) result (book l.new ix.new) }
+fn face_literal(p: &mut Producer, op: Op, n: usize, f: &[u8], t: &[u8], out: &[u8]) -> Ran
+    requires { Known Sort.Faces f.now × KnownOp op t.now × Literal Sort.Faces n f.now × Is Sort.Faces (transform_of Sort.Faces (op_of op t.now) (tree_of Sort.Faces f.now)) out.now }
+    ensures { RunsFor p.old (emit_faces (op_of op t.now) (tree_of Sort.Faces f.now)) result p.new }
 {
-    let node = steps::literal(18, n);
+    let node = steps::literal(DIMENSION_BYTE, n);
     let mut became = [0u8; 1024];
     let m = image(op, &node, t, &mut became);
-    let a = transform_dimension(l, ix, op, n, &node, t, &became[..m]);
-    if !steps::is_done(a) {
-        return a;
-    }
-    let i = steps::step_of(a);
+    let i = transform_dimension(p, op, n, &node, t, &became[..m])?;
     match op {
-        Op::DShift(_) => transform_whole(l, ix, Sort::Faces, op, f, t, out, 0, i, 0),
+        Op::DShift(_) => transform_whole(p.ledger, p.index, Sort::Faces, op, f, t, out, 0, i, 0),
         Op::DSubst(_) => {
-            let b = boundary_steps(l, ix, &became[..m]);
-            if !steps::is_done(b) {
-                return b;
-            }
-            let j = steps::step_of(b);
-            transform_whole(l, ix, Sort::Faces, op, f, t, out, 0, i, j)
+            let j = boundary_steps(p, &became[..m])?;
+            transform_whole(p.ledger, p.index, Sort::Faces, op, f, t, out, 0, i, j)
         }
     }
 }
 
 // The steps of a literal on n, by the sort. Apart from the recursion, whose frames then hold no buffers.
 fn transform_literal(
-    l: &mut [u8],
-    ix: &mut [u32],
+    p: &mut Producer,
     sort: Sort,
     op: Op,
     n: usize,
@@ -274,12 +207,12 @@ fn transform_literal(
     t: &[u8],
     out: &[u8],
 ) -> Ran
-    requires { Indexed l.old ix.old × Known sort f.now × KnownOp op t.now × Literal sort n f.now × Is sort (transform_of sort (op_of op t.now) (tree_of sort f.now)) out.now }
-    ensures { Runs (book l.old ix.old) (emit_transform sort (op_of op t.now) (tree_of sort f.now)) result (book l.new ix.new) }
+    requires { Known sort f.now × KnownOp op t.now × Literal sort n f.now × Is sort (transform_of sort (op_of op t.now) (tree_of sort f.now)) out.now }
+    ensures { RunsFor p.old (emit_transform sort (op_of op t.now) (tree_of sort f.now)) result p.new }
 {
     match sort {
-        Sort::Faces => face_literal(l, ix, op, n, f, t, out),
-        Sort::Intervals => transform_dimension(l, ix, op, n, f, t, out),
+        Sort::Faces => face_literal(p, op, n, f, t, out),
+        Sort::Intervals => transform_dimension(p, op, n, f, t, out),
     }
 }
 
@@ -298,113 +231,94 @@ fn transform_end(
     last: Place,
     i: usize,
     j: usize,
-) -> Paired
+) -> Result<Paired, Stop>
     requires { Indexed l.old ix.old × Spans f.now at end × KnownOp op t.now × Spans out.now from last }
-    ensures { Emits (book l.old ix.old) (transform_kind sort op (get_or (span at end f.now) 0 0)) (i ∷ j ∷ 0 ∷ []) (transform_bytes op (span at end f.now) t.now (span from last out.now)) result.ran (book l.new ix.new) × (result.place ≡ end) × (result.image ≡ last) }
+    ensures { Emits (book l.old ix.old) (transform_kind sort op (get_or (span at end f.now) 0 0)) (i ∷ j ∷ 0 ∷ []) (transform_bytes op (span at end f.now) t.now (span from last out.now)) (pair_ran result) (book l.new ix.new) × IfOk result (λ w. (w.place ≡ end) × (w.image ≡ last)) }
 {
     let x = steps::between(f, at, end);
     let y = steps::between(out, from, last);
-    Paired {
-        ran: transform_whole(l, ix, sort, op, x, t, y, 0, i, j),
+    let step = transform_whole(l, ix, sort, op, x, t, y, 0, i, j)?;
+    Ok(Paired {
+        step,
         place: end,
         image: last,
-    }
+    })
 }
 
-// The steps of the literal on n between the place p and `end`, beside its result at q.
+// The steps of the literal on n between the place `here` and `end`, beside its result at q.
 fn transform_lit(
-    l: &mut [u8],
-    ix: &mut [u32],
+    p: &mut Producer,
     sort: Sort,
     op: Op,
     n: usize,
     f: &[u8],
-    p: Place,
+    here: Place,
     end: Place,
     t: &[u8],
     out: &[u8],
     q: Place,
-) -> Paired
-    requires { Indexed l.old ix.old × KnownAt sort f.now p × KnownOp op t.now × StandsAt sort (transform_of sort (op_of op t.now) (tree_at sort f.now p)) out.now q × Literal sort n (part_at sort f.now p.at) × (end ≡ behind_at sort f.now p) }
-    ensures { WalksBoth (book l.old ix.old) (emit_transform sort (op_of op t.now) (tree_at sort f.now p)) (behind_at sort f.now p) (behind_at sort out.now q) result (book l.new ix.new) }
+) -> Result<Paired, Stop>
+    requires { KnownAt sort f.now here × KnownOp op t.now × StandsAt sort (transform_of sort (op_of op t.now) (tree_at sort f.now here)) out.now q × Literal sort n (part_at sort f.now here.at) × (end ≡ behind_at sort f.now here) }
+    ensures { WalksBothFor p.old (emit_transform sort (op_of op t.now) (tree_at sort f.now here)) (behind_at sort f.now here) (behind_at sort out.now q) result p.new }
 {
-    let at = p.at;
+    let at = here.at;
     let from = q.at;
     let w = steps::over(sort, out, q);
     let x = steps::between(f, at, end);
     let y = steps::between(out, from, w);
-    Paired {
-        ran: transform_literal(l, ix, sort, op, n, x, t, y),
+    let step = transform_literal(p, sort, op, n, x, t, y)?;
+    Ok(Paired {
+        step,
         place: end,
         image: w,
-    }
+    })
 }
 
-// The steps of the formula at p and of its parts, beside the result at q.
+// The steps of the formula at `here` and of its parts, beside the result at q.
 fn transform_at(
-    l: &mut [u8],
-    ix: &mut [u32],
+    p: &mut Producer,
     sort: Sort,
     op: Op,
     f: &[u8],
-    p: Place,
+    here: Place,
     t: &[u8],
     out: &[u8],
     q: Place,
-) -> Paired
-    requires { Indexed l.old ix.old × KnownAt sort f.now p × KnownOp op t.now × StandsAt sort (transform_of sort (op_of op t.now) (tree_at sort f.now p)) out.now q }
-    ensures { WalksBoth (book l.old ix.old) (emit_transform sort (op_of op t.now) (tree_at sort f.now p)) (behind_at sort f.now p) (behind_at sort out.now q) result (book l.new ix.new) }
+) -> Result<Paired, Stop>
+    requires { KnownAt sort f.now here × KnownOp op t.now × StandsAt sort (transform_of sort (op_of op t.now) (tree_at sort f.now here)) out.now q }
+    ensures { WalksBothFor p.old (emit_transform sort (op_of op t.now) (tree_at sort f.now here)) (behind_at sort f.now here) (behind_at sort out.now q) result p.new }
 {
-    let at = p.at;
+    let at = here.at;
     let from = q.at;
-    match p.step(sort, f) {
+    match here.step(sort, f) {
         Advance::Leaf(e) => {
             let w = steps::over(sort, out, q);
-            transform_end(l, ix, sort, op, f, at, e, t, out, from, w, 0, 0)
+            transform_end(p.ledger, p.index, sort, op, f, at, e, t, out, from, w, 0, 0)
         }
-        Advance::Lit(e, n) => transform_lit(l, ix, sort, op, n, f, p, e, t, out, q),
+        Advance::Lit(e, n) => transform_lit(p, sort, op, n, f, here, e, t, out, q),
         Advance::One(e) => {
-            let a = transform_at(l, ix, sort, op, f, e, t, out, steps::below(out, q));
-            let under = a.ran;
-            if !steps::is_done(under) {
-                return a;
-            }
-            let i = steps::step_of(under);
-            transform_end(l, ix, sort, op, f, at, a.place, t, out, from, a.image, i, 0)
+            let a = transform_at(p, sort, op, f, e, t, out, steps::below(out, q))?;
+            transform_end(
+                p.ledger, p.index, sort, op, f, at, a.place, t, out, from, a.image, a.step, 0,
+            )
         }
         Advance::Two(e) => {
-            let a = transform_at(l, ix, sort, op, f, e, t, out, steps::inside(out, q));
-            let left = a.ran;
-            if !steps::is_done(left) {
-                return a;
-            }
-            let b = transform_at(l, ix, sort, op, f, a.place, t, out, a.image);
-            let right = b.ran;
-            if !steps::is_done(right) {
-                return b;
-            }
-            let i = steps::step_of(left);
-            let j = steps::step_of(right);
-            transform_end(l, ix, sort, op, f, at, b.place, t, out, from, b.image, i, j)
+            let a = transform_at(p, sort, op, f, e, t, out, steps::inside(out, q))?;
+            let b = transform_at(p, sort, op, f, a.place, t, out, a.image)?;
+            transform_end(
+                p.ledger, p.index, sort, op, f, at, b.place, t, out, from, b.image, a.step, b.step,
+            )
         }
-        Advance::Stuck => steps::nowhere(p, q),
+        Advance::Stuck => Err(Stop::Full),
     }
 }
 
 // The steps of a formula and its parts.
-pub fn transform(
-    l: &mut [u8],
-    ix: &mut [u32],
-    sort: Sort,
-    op: Op,
-    f: &[u8],
-    t: &[u8],
-    out: &[u8],
-) -> Ran
-    requires { Indexed l.old ix.old × Known sort f.now × KnownOp op t.now × Is sort (transform_of sort (op_of op t.now) (tree_of sort f.now)) out.now }
-    ensures { Runs (book l.old ix.old) (emit_transform sort (op_of op t.now) (tree_of sort f.now)) result (book l.new ix.new) }
+pub fn transform(p: &mut Producer, sort: Sort, op: Op, f: &[u8], t: &[u8], out: &[u8]) -> Ran
+    requires { Known sort f.now × KnownOp op t.now × Is sort (transform_of sort (op_of op t.now) (tree_of sort f.now)) out.now }
+    ensures { RunsFor p.old (emit_transform sort (op_of op t.now) (tree_of sort f.now)) result p.new }
 {
-    let p = Place { at: 0, pending: 1 };
-    let r = transform_at(l, ix, sort, op, f, p, t, out, p);
-    r.ran
+    let start = Place { at: 0, pending: 1 };
+    let r = transform_at(p, sort, op, f, start, t, out, start)?;
+    Ok(r.step)
 }

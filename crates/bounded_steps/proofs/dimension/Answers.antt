@@ -1,17 +1,24 @@
-use native.Mathlib.Omega.{arith}
-use mathlib.Core.Path.{sym, ap, ap₂, ◌∙◌}
-use mathlib.Core.List.{List, [], ◌++◌, ◌∷◌}
 use Prim.Native.Nat.{ℕ}
-use lib.ListN.{length}
+use mathlib.Core.Path.{refl, ap₂}
+use mathlib.Core.List.{List, ◌++◌}
+use Rattle.std.proofs.lemmas.Result.{err_from_is_err_and}
 use Rattle.steps.proofs.RunLaws.{emits-same, runs-led}
+use Rattle.steps.proofs.LentLaws.{lent-on}
 use Rattle.bounded_steps.proofs.BelowLaws.{dimension-stop, dimension-runs}
 use Rattle.bounded_steps.proofs.dimension.Goals as goal
 
-pub returns-then-not-is_done : goal.returns-then-not-is_done
-returns-then-not-is_done c = let a = c.args in dimension-stop a.d a.n c.comparison-r.ensures (sym c.is_done.ensures ∙ c.if-not-is_done.true)
+pub returns-in_err-i : goal.returns-in_err-i
+returns-in_err-i c = let a = c.args in
+    let p = err_from_is_err_and c.from_residual.result c.from_residual.ensures.1 in
+    rw (p.1, p.2) (record { runs = dimension-stop a.d a.n c.in_err-i.ensures.runs; lent = c.in_err-i.ensures.lent })
 
-pub emit3-requires : goal.emit3-requires
-emit3-requires c = (runs-led c.comparison-r.ensures, omega (arith, ap length c.number.ensures, ap length c.number-2.ensures))
+pub invariant_of-p : goal.invariant_of-p
+invariant_of-p c = let a = c.args in
+    record { indexed = runs-led (dimension-runs a.d a.n c.requires.0 c.requires.1 c.in_ok-i.ensures.runs (emits-same (ap₂ (λ (x y : List ℕ). x ++ y) c.number.ensures c.literal-node.ensures) c.emit.ensures)) }
 
 pub returns : goal.returns
-returns c = let a = c.args in dimension-runs a.d a.n c.requires.1 c.requires.2 c.comparison-r.ensures (sym c.is_done.ensures ∙ c.if-not-is_done.false) c.step_of.ensures (emits-same (ap₂ (λ (x y : List ℕ). x ++ ((18 ∷ []) ++ y)) c.number.ensures c.number-2.ensures) c.emit3.ensures)
+returns c = let a = c.args in
+    record {
+      runs = dimension-runs a.d a.n c.requires.0 c.requires.1 c.in_ok-i.ensures.runs (emits-same (ap₂ (λ (x y : List ℕ). x ++ y) c.number.ensures c.literal-node.ensures) c.emit.ensures);
+      lent = lent-on c.in_ok-i.ensures.lent (record { ledger = refl; index = refl });
+    }

@@ -1,14 +1,18 @@
-use Rattle.counterexample.proofs.AskLaws.{first-refused, second-refused, both-sides, both-show}
+use mathlib.Core.Path.{sym, ◌∙◌}
+use Rattle.counterexample.proofs.AskLaws.{first-refused, second-refused, both-refused, both-sides, both-show}
 use Rattle.counterexample.proofs.answers.counterexample.Goals as goal
 
 pub admit-requires : goal.admit-requires
-admit-requires c = both-sides c.args.d c.args.a.now c.args.b.now c.args.out.now c.operand.ensures c.in-Fits.is c.operand-in-Fits.ensures c.in-Fits-operand.is
+admit-requires c = both-sides c.args.d c.args.a.now c.args.b.now c.args.out.now (sym c.in-Ok-Ok.is-0 ∙ c.operand-left.ensures) (sym c.in-Ok-Ok.is-1 ∙ c.operand-right.ensures) c.max.ensures
 
-pub returns-in-Fits-operand : goal.returns-in-Fits-operand
-returns-in-Fits-operand c = both-show c.args.d c.args.a.now c.args.b.now c.args.out.now c.operand.ensures c.in-Fits.is c.operand-in-Fits.ensures c.in-Fits-operand.is c.admit.ensures
+pub returns-in-Ok-Ok : goal.returns-in-Ok-Ok
+returns-in-Ok-Ok c = both-show c.args.d c.args.a.now c.args.b.now c.args.out.now (sym c.in-Ok-Ok.is-0 ∙ c.operand-left.ensures) (sym c.in-Ok-Ok.is-1 ∙ c.operand-right.ensures) c.admit.ensures
 
-pub returns-in-Refused-operand : goal.returns-in-Refused-operand
-returns-in-Refused-operand c = second-refused c.args.d c.args.a.now c.args.b.now c.args.out.now c.operand.ensures c.in-Fits.is c.operand-in-Fits.ensures c.in-Refused-operand.is
+pub returns-in-Err-Err : goal.returns-in-Err-Err
+returns-in-Err-Err c = both-refused c.args.d c.args.a.now c.args.b.now c.args.out.now (sym c.in-Err-Err.is-0 ∙ c.operand-left.ensures) (sym c.in-Err-Err.is-1 ∙ c.operand-right.ensures) c.earlier.ensures
 
-pub returns-in-Refused : goal.returns-in-Refused
-returns-in-Refused c = first-refused c.args.d c.args.a.now c.args.b.now c.args.out.now c.operand.ensures c.in-Refused.is c.beside-q.ensures
+pub returns-in-Err-Ok : goal.returns-in-Err-Ok
+returns-in-Err-Ok c = first-refused c.args.d c.args.a.now c.args.b.now c.args.out.now (sym c.in-Err-Ok.is-0 ∙ c.operand-left.ensures) (sym c.in-Err-Ok.is-1 ∙ c.operand-right.ensures)
+
+pub returns-in-Ok-Err : goal.returns-in-Ok-Err
+returns-in-Ok-Err c = second-refused c.args.d c.args.a.now c.args.b.now c.args.out.now (sym c.in-Ok-Err.is-0 ∙ c.operand-left.ensures) (sym c.in-Ok-Err.is-1 ∙ c.operand-right.ensures)

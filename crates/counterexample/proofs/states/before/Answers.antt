@@ -1,34 +1,17 @@
-use Prim.Native.Nat.{◌+◌}
-use native.Mathlib.Omega.{arith}
-use mathlib.Core.Path.{refl, sym, ap, ◌∙◌}
-use lib.ListN.{drop}
+use mathlib.Core.Path.{sym, ap, ◌∙◌}
+use mathlib.Core.Logic.{inl, inr}
 use Rattle.counterexample.specs.Exploring.{precedes}
 use Rattle.counterexample.proofs.LoopLaws.{precedes-lower, precedes-higher, precedes-equal, precedes-ends}
 use Rattle.counterexample.proofs.states.before.Goals as goal
 
-pub loop-i-init : goal.loop-i-init
-loop-i-init c = (omega arith, refl)
-
-pub bounds-state-i : goal.bounds-state-i
-bounds-state-i c = omega arith
-
-pub bounds-best-i : goal.bounds-best-i
-bounds-best-i c = omega (arith, c.requires)
-
 pub returns-then-v-b : goal.returns-then-v-b
-returns-then-v-b c = sym (sym c.loop-i.invariant.1 ∙ precedes-lower c.loop-i.left c.args.state.now c.args.best.now c.loop-i.i (omega arith) (omega (arith, c.requires)) c.lowest-v.ensures c.if-v-b.true)
+returns-then-v-b c = sym (precedes-lower c.loop-s.left c.in-Some.ensures.steps.0 c.in-Some.ensures.steps.1 c.lowest-v.ensures c.if-v-b.true) ∙ c.loop-s.invariant
 
 pub returns-then-b-v : goal.returns-then-b-v
-returns-then-b-v c = sym (sym c.loop-i.invariant.1 ∙ precedes-higher c.loop-i.left c.args.state.now c.args.best.now c.loop-i.i (omega arith) (omega (arith, c.requires)) c.lowest-v.ensures c.if-b-v.true)
+returns-then-b-v c = sym (precedes-higher c.loop-s.left c.in-Some.ensures.steps.0 c.in-Some.ensures.steps.1 c.lowest-v.ensures c.if-b-v.true) ∙ c.loop-s.invariant
 
-pub overflow_add-i : goal.overflow_add-i
-overflow_add-i c = omega arith
-
-pub loop-i-smaller : goal.loop-i-smaller
-loop-i-smaller c = omega arith
-
-pub loop-i-preserved : goal.loop-i-preserved
-loop-i-preserved c = (omega arith, ap (λ k. precedes k (drop (c.loop-i.i + 1) c.args.state.now) (drop (c.loop-i.i + 1) c.args.best.now)) c.spent-left.ensures ∙ sym (precedes-equal c.loop-i.left c.args.state.now c.args.best.now c.loop-i.i (omega arith) (omega (arith, c.requires)) c.lowest-v.ensures c.if-v-b.false c.if-b-v.false) ∙ c.loop-i.invariant.1)
+pub loop-s-preserved : goal.loop-s-preserved
+loop-s-preserved c = ap (λ k. precedes k c.next.new.self.a.rest.now c.next.new.self.b.rest.now) c.spent-left.ensures ∙ sym (precedes-equal c.loop-s.left c.in-Some.ensures.steps.0 c.in-Some.ensures.steps.1 c.lowest-v.ensures c.if-v-b.false c.if-b-v.false) ∙ c.loop-s.invariant
 
 pub returns : goal.returns
-returns c = sym (sym c.loop-i.invariant.1 ∙ precedes-ends c.loop-i.left c.args.state.now c.args.best.now c.loop-i.i c.loop-i-test.false c.loop-i.invariant.0)
+returns c = sym (precedes-ends c.loop-s.left _ _ (elim c.in-None.ensures.steps [ inl p ↦ inl p.1.0 | inr p ↦ inr p.1.0 ])) ∙ c.loop-s.invariant

@@ -1,12 +1,8 @@
-use Prim.Native.Nat.{◌≤◌, ◌-◌}
 use mathlib.Core.Path.{◌≡◌}
-use lib.ListN.{length, take}
+use lib.ListN.{take}
 use lib.Seq.{sets}
 use Rattle.needs.specs.States.{settled}
 use Rattle.counterexample.proofs.states.settle.Given as goal
 
 abbrev pub invariant-loop-i : goal.invariant-loop-i
-invariant-loop-i l = (l.i ≤ length l.state) × (l.best ≡ sets l.initial.best 0 (take l.i (settled l.state)))
-
-abbrev pub decreases-loop-i : goal.decreases-loop-i
-decreases-loop-i l = length l.state - l.i
+invariant-loop-i l = l.best ≡ sets l.initial.best 0 (take l.i (settled l.state))

@@ -1,15 +1,17 @@
-use mathlib.Core.Path.{refl, sym, ◌∙◌}
-use Prim.Native.Nat.{◌+◌}
-use lib.ListN.{take, drop}
 use native.Mathlib.Omega.{arith}
-use borrow.Author.Tests.{ltb-true, ltb-false}
-use Rattle.clauses.specs.Normal.{pairs as pairs_of}
+use Prim.Native.Nat.{◌+◌}
+use mathlib.Core.Path.{ap₂, subst}
+use Rattle.std.proofs.Common.{Some}
+use Rattle.clauses.specs.Lists.{Lists}
+use Rattle.clauses.specs.Normal.{limited, pairs}
 use Rattle.clauses.specs.Words.{words}
-use Rattle.dnf.proofs.JoinLaws.{both-over, both-done}
+use Rattle.dnf.proofs.JoinLaws.{parted, both-done}
 use Rattle.dnf.proofs.joined.both.Goals as goal
 
-pub returns-then-over : goal.returns-then-over
-returns-then-over c = let a = c.args in (both-over (words a.mask) (pairs_of (words a.mask) (take a.n (drop a.at a.list.now)) (take a.m (drop (a.at + a.n) a.list.now))) (omega arith) c.pairs-k.ensures (ltb-true 256 c.pairs-k.result (sym c.over.ensures ∙ c.if-over.true)), refl)
-
 pub returns : goal.returns
-returns c = let a = c.args in (both-done (words a.mask) (pairs_of (words a.mask) (take a.n (drop a.at a.list.now)) (take a.m (drop (a.at + a.n) a.list.now))) (omega arith) c.requires.0 c.pairs-k.ensures (ltb-false 256 c.pairs-k.result (sym c.over.ensures ∙ c.if-over.false)) c.prune.ensures.0, c.prune.ensures.1)
+returns c =
+    let a = c.args in
+    let s = c.split_at_mut-parts.ensures in
+    let same = parted a.n a.m a.list.now c.split_at_mut-parts.result.0.now s.front s.front_len in
+    subst (λ xs. Lists (limited (words a.mask) xs) (Some c.prune.result) c.prune.new.list) (ap₂ (pairs (words a.mask)) same.0 same.1)
+    (both-done (words a.mask) _ c.split_at_mut-parts.result.0.now (a.n + a.m) s.front_len (omega (arith, s.back_len, c.pairs.auto.made)) c.in_ok-k.ensures c.prune.ensures)

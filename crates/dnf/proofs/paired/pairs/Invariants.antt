@@ -1,12 +1,8 @@
-use Prim.Native.Nat.{◌-◌}
-use lib.ListN.{take, drop}
+use lib.ListN.{drop}
 use Rattle.clauses.specs.Normal.{pairs as pairs_of}
 use Rattle.clauses.specs.Words.{words}
 use Rattle.dnf.proofs.PairLaws.{Growing}
 use Rattle.dnf.proofs.paired.pairs.Given as goal
 
-abbrev pub invariant-loop-i : goal.invariant-loop-i
-invariant-loop-i l = Growing (pairs_of (words l.mask) (take l.n (drop l.from l.initial.list)) (take l.m (drop l.right l.initial.list))) l.to 0 l.initial.list l.list l.k (pairs_of (words l.mask) (drop l.i (take l.n (drop l.from l.initial.list))) (take l.m (drop l.right l.initial.list)))
-
-abbrev pub decreases-loop-i : goal.decreases-loop-i
-decreases-loop-i l = l.n - l.i
+abbrev pub invariant-loop-c : goal.invariant-loop-c
+invariant-loop-c l = Growing (pairs_of (words l.mask) l.left l.right) 0 l.initial.made l.made l.k (pairs_of (words l.mask) (drop l.c-index l.left) l.right)

@@ -1,24 +1,19 @@
-use mathlib.Core.Path.{sym, ◌∙◌}
 use Prim.Native.Nat.{◌+◌}
-use lib.ListN.{take, drop}
-use native.Mathlib.Omega.{arith}
+use mathlib.Core.Path.{sym, ◌∙◌}
+use lib.ListN.{length-set}
 use borrow.Author.Tests.{ltb-true, ltb-false}
 use Rattle.clauses.specs.Words.{facing}
-use Rattle.clauses.proofs.ListLaws.{part_end}
-use Rattle.dnf.proofs.PairLaws.{growing-at, pairing-next, pairing-over, pairing-end}
+use Rattle.clauses.proofs.ListLaws.{counted-unless}
+use Rattle.dnf.proofs.PairLaws.{pairing-next, pairing-over, pairing-end}
 use Rattle.dnf.proofs.paired.pairs_with.Goals as goal
 
 pub returns-then-over : goal.returns-then-over
 returns-then-over c = let a = c.args in
-    pairing-over (facing a.o) a.c (take a.n (drop a.from a.list.now)) c.loop-i.i c.loop-i.invariant (growing-at c.loop-i.invariant a.from a.n c.loop-i.i _ c.loop-i-test.true c.requires.0 (omega arith)) c.join-u.ensures c.meet-against.ensures c.one_unless-more.ensures
-    (ltb-true 256 (c.loop-i.k + c.one_unless-more.result) (sym c.over.ensures ∙ c.if-over.true))
-    c.requires.1 c.requires.2
+    pairing-over (facing a.o) a.c a.right.now c.loop-d.invariant _ c.loop-d-test.true c.join.ensures c.meet.ensures (counted-unless c.meet.result c.from-k.ensures) (ltb-true 256 (c.loop-d.k + c.from-k.result) (sym c.over.ensures ∙ c.if-over.true)) c.requires.0 c.requires.1
 
-pub loop-i-preserved : goal.loop-i-preserved
-loop-i-preserved c = let a = c.args in
-    pairing-next (facing a.o) a.c (take a.n (drop a.from a.list.now)) c.loop-i.i c.loop-i.invariant (growing-at c.loop-i.invariant a.from a.n c.loop-i.i _ c.loop-i-test.true c.requires.0 (omega arith)) c.join-u.ensures c.meet-against.ensures c.one_unless-more.ensures
-    (ltb-false 256 (c.loop-i.k + c.one_unless-more.result) (sym c.over.ensures ∙ c.if-over.false))
-    c.requires.1
+pub loop-d-preserved : goal.loop-d-preserved
+loop-d-preserved c = let a = c.args in
+    pairing-next (facing a.o) a.c a.right.now c.loop-d.invariant _ c.loop-d-test.true c.join.ensures c.meet.ensures (counted-unless c.meet.result c.from-k.ensures) (ltb-false 256 (c.loop-d.k + c.from-k.result) (sym c.over.ensures ∙ c.if-over.false)) c.requires.0 (length-set c.loop-d.made c.loop-d.k c.join.result)
 
 pub returns : goal.returns
-returns c = let a = c.args in pairing-end (facing a.o) a.c (take a.n (drop a.from a.list.now)) c.loop-i.i c.loop-i.invariant (part_end a.list.now a.from a.n c.loop-i.i c.loop-i-test.false (omega arith)) c.requires.1 c.requires.2
+returns c = pairing-end (facing c.args.o) c.args.c c.args.right.now c.loop-d.invariant c.loop-d-test.false

@@ -1,12 +1,8 @@
-use Prim.Native.Nat.{◌-◌}
-use lib.ListN.{take, drop}
+use lib.ListN.{drop}
 use Rattle.clauses.specs.Normal.{pairs_with}
 use Rattle.clauses.specs.Words.{facing}
 use Rattle.dnf.proofs.PairLaws.{Growing}
 use Rattle.dnf.proofs.paired.pairs_with.Given as goal
 
-abbrev pub invariant-loop-i : goal.invariant-loop-i
-invariant-loop-i l = Growing (pairs_with (facing l.o) l.c (take l.n (drop l.from l.initial.list))) l.to l.count l.initial.list l.list l.k (pairs_with (facing l.o) l.c (drop l.i (take l.n (drop l.from l.initial.list))))
-
-abbrev pub decreases-loop-i : goal.decreases-loop-i
-decreases-loop-i l = l.n - l.i
+abbrev pub invariant-loop-d : goal.invariant-loop-d
+invariant-loop-d l = Growing (pairs_with (facing l.o) l.c l.right) l.count l.initial.made l.made l.k (pairs_with (facing l.o) l.c (drop l.d-index l.right))

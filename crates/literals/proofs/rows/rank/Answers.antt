@@ -1,14 +1,16 @@
-use Rattle.literals.proofs.RowLaws.{seeking-start, seeking-found, seeking-next, seeking-end}
+use mathlib.Core.Path.{ap, ◌∙◌}
+use lib.Dec.{eqb}
+use lib.ListN.{length}
+use Rattle.std.proofs.Common.{rules, tests}
+use Rattle.std.specs.Option.{unwrap_or}
+use Rattle.std.proofs.lemmas.Iterator.{YieldsList-from_slice}
+use Rattle.std.proofs.lemmas.Iterator.Search.{position_from_yields_List}
+use Rattle.literals.proofs.RowLaws.{position-or_len}
 use Rattle.literals.proofs.rows.rank.Goals as goal
 
-pub loop-i-init : goal.loop-i-init
-loop-i-init c = seeking-start
-
-pub returns-then-numbers-i : goal.returns-then-numbers-i
-returns-then-numbers-i c = seeking-found c.loop-i.invariant c.loop-i-test.true c.if-numbers-i.true
-
-pub loop-i-preserved : goal.loop-i-preserved
-loop-i-preserved c = seeking-next c.loop-i.invariant c.loop-i-test.true c.if-numbers-i.false
-
 pub returns : goal.returns
-returns c = seeking-end c.loop-i.invariant c.loop-i-test.false
+returns c =
+    let l = c.args.numbers.now in
+    let k = c.args.k in
+    let found = position_from_yields_List (λ n. eqb n k) _ _ c.position.result c.position.ensures.ran (YieldsList-from_slice l cc) (λ x b q h. search (rules, tests)) in
+    c.unwrap_or.ensures ∙ ap (λ r. unwrap_or r (length l)) found ∙ position-or_len k l

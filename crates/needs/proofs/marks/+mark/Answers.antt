@@ -1,8 +1,7 @@
-use borrow.Author.Rules.{rules}
 use native.Mathlib.Omega.{arith}
-use Rattle.needs.proofs.PlaceLaws.{stands-inside, literal-inside, leaf-ends, literal-ends, first-stands, second-behind, second-stands}
+use Rattle.needs.proofs.PlaceLaws.{stands-inside, leaf-ends, literal-ends, first-stands, second-behind, second-stands}
 use Rattle.needs.proofs.MarkLaws.{parts-marked, node-marked}
-use mathlib.Core.Path.{refl, ◌∙◌}
+use mathlib.Core.Path.{refl}
 use Rattle.needs.proofs.marks.+mark.Goals as goal
 
 pub bounds-f-at : goal.bounds-f-at
@@ -14,9 +13,6 @@ overflow_add-next t c = omega (arith, stands-inside c.requires.stands.0)
 pub returns-then-kind-lt2 : goal.returns-then-kind-lt2
 returns-then-kind-lt2 t c = record { ends = leaf-ends c.args.f.now c.args.at c.if-kind-lt2.true; right = c.requires.stands.1; long = refl }
 
-pub overflow_add-result : goal.overflow_add-result
-overflow_add-result t c = omega (arith, literal-inside c.requires.stands.0 c.if-kind-lt2.false c.if-kind-lt4.true)
-
 pub returns-then-kind-lt4 : goal.returns-then-kind-lt4
 returns-then-kind-lt4 t c = record { ends = literal-ends c.args.f.now c.args.at c.if-kind-lt2.false c.if-kind-lt4.true; right = c.requires.stands.1; long = refl }
 
@@ -26,20 +22,11 @@ mark-middle-requires t c = (omega (arith, c.decreases, stands-inside c.requires.
 pub mark-end-requires : goal.mark-end-requires
 mark-end-requires t c = (omega (arith, c.decreases, stands-inside c.requires.stands.0, second-behind c.requires.stands.0 c.if-kind-lt4.false c.mark-middle.ensures.ends), ((second-stands c.requires.stands.0 c.if-kind-lt4.false c.mark-middle.ensures.ends, c.mark-middle.ensures.right), omega (arith, c.requires.f_in_bounds, c.mark-middle.ensures.long)))
 
-pub shares-common-requires : goal.shares-common-requires
-shares-common-requires t c = (first-stands c.requires.stands.0 c.if-kind-lt4.false, second-stands c.requires.stands.0 c.if-kind-lt4.false c.mark-middle.ensures.ends)
+pub share-requires : goal.share-requires
+share-requires t c = (first-stands c.requires.stands.0 c.if-kind-lt4.false, second-stands c.requires.stands.0 c.if-kind-lt4.false c.mark-middle.ensures.ends)
 
-pub shape_of-marks-then-common : goal.shape_of-marks-then-common
-shape_of-marks-then-common t c = c.mark-end.ensures.long ∙ c.mark-middle.ensures.long
+pub returns-then-not-share : goal.returns-then-not-share
+returns-then-not-share t c = node-marked c.args.f.now c.args.at c.if-kind-lt4.false c.mark-middle.ensures c.mark-end.ensures c.share.ensures c.if-not-share.true
 
-pub returns-then-common : goal.returns-then-common
-returns-then-common t c = parts-marked c.args.f.now c.args.at c.if-kind-lt4.false c.mark-middle.ensures c.mark-end.ensures
-
-pub bounds-marks-at : goal.bounds-marks-at
-bounds-marks-at t c = omega (arith, stands-inside c.requires.stands.0, c.requires.f_in_bounds, c.mark-middle.ensures.long, c.mark-end.ensures.long)
-
-pub shape_of-marks : goal.shape_of-marks
-shape_of-marks t c = search (rules, c.mark-end.ensures.long ∙ c.mark-middle.ensures.long)
-
-pub returns : goal.returns
-returns t c = node-marked c.args.f.now c.args.at c.if-kind-lt4.false c.mark-middle.ensures c.mark-end.ensures c.shares-common.ensures c.if-common.false
+pub returns-else-not-share : goal.returns-else-not-share
+returns-else-not-share t c = parts-marked c.args.f.now c.args.at c.if-kind-lt4.false c.mark-middle.ensures c.mark-end.ensures

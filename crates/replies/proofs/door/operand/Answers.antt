@@ -1,10 +1,12 @@
-use mathlib.Core.Path.{sym, ◌∙◌}
-use Rattle.replies.proofs.GateLaws.{operand-by}
-use Rattle.formula.proofs.Measuring.{measured-as}
+use mathlib.Core.Path.{ap, ◌∙◌}
+use Rattle.std.proofs.lemmas.Result.{err_from_is_err_and}
+use Rattle.replies.proofs.GateLaws.{size_gate, operand-by}
 use Rattle.replies.proofs.door.operand.Goals as goal
 
-pub returns-in-Formula : goal.returns-in-Formula
-returns-in-Formula c = let a = c.args in c.limits.ensures ∙ operand-by a.sort a.f.now a.low _ (sym c.in-Formula.is ∙ measured-as _ _ c.measure.ensures)
+pub returns-in_err-z : goal.returns-in_err-z
+returns-in_err-z c = let a = c.args in
+    let p = err_from_is_err_and c.from_residual.result c.from_residual.ensures.1 in
+    rw (p.1, p.2) (ap (size_gate a.low) c.in_err-z.ensures ∙ operand-by a.sort a.f.now a.low)
 
-pub returns-in-Ill : goal.returns-in-Ill
-returns-in-Ill c = let a = c.args in operand-by a.sort a.f.now a.low _ (sym c.in-Ill.is ∙ measured-as _ _ c.measure.ensures)
+pub returns : goal.returns
+returns c = let a = c.args in c.limits.ensures ∙ ap (size_gate a.low) c.in_ok-z.ensures ∙ operand-by a.sort a.f.now a.low

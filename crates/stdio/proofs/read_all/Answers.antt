@@ -1,9 +1,0 @@
-use Rattle.std.proofs.Common.{arith, ◌∙◌}
-use Rattle.stdio.proofs.Behind.{Consumes-behind}
-use Rattle.stdio.proofs.read_all.Goals as goal
-
-pub loop-n-preserved : goal.loop-n-preserved
-loop-n-preserved g c =
-    let (same, _, before) = c.loop-n.invariant in
-    let (more, within) = c.read_more-more.ensures.within in
-    (c.read_more-more.auto.space ∙ same, omega (arith, within, c.read_more-more.auto.space), Consumes-behind _ _ _ c.loop-n.space c.read_more-more.new.space _ _ more c.read_more-more.ensures.front before c.read_more-more.ensures.took)

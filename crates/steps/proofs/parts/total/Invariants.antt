@@ -1,0 +1,6 @@
+use Rattle.std.proofs.Common.{◌≡◌, length, take}
+use Rattle.steps.specs.Parts.{joined}
+use Rattle.steps.proofs.parts.total.Given as goal
+
+abbrev pub invariant-loop-part : goal.invariant-loop-part
+invariant-loop-part l = l.n ≡ length (joined (take l.part-index l.parts))
