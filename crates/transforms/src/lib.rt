@@ -69,14 +69,14 @@ fn transform_kind(sort: Sort, op: Op, b: u8, more: usize) -> usize
 }
 
 // The step of the whole formula by the rule `more` after the first, from those of its parts.
-fn transform_whole(
+fn transform_whole<'a>(
     l: &mut [u8],
     ix: &mut [u32],
     sort: Sort,
     op: Op,
-    f: &[u8],
-    t: &[u8],
-    out: &[u8],
+    f: &'a [u8],
+    t: &'a [u8],
+    out: &'a [u8],
     more: usize,
     i: usize,
     j: usize,

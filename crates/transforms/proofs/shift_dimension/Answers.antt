@@ -2,7 +2,7 @@ use Rattle.std.proofs.lemmas.Result.{err_from_is_err_and}
 use native.Mathlib.Omega.{arith}
 use Prim.Native.Nat.{Ordering}
 use Prim.Native.Nat.{compare}
-use mathlib.Core.Path.{refl, sym, ◌∙◌}
+use mathlib.Core.Path.{refl}
 use Rattle.formula.specs.declared.Sort.TheVariants.{Intervals}
 use Rattle.operations.specs.declared.Op.TheVariants.{DShift}
 use Rattle.formula.specs.Operations.{shift}

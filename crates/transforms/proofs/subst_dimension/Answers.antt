@@ -1,7 +1,7 @@
 use Rattle.std.proofs.lemmas.Result.{err_from_is_err_and}
 use native.Mathlib.Omega.{arith}
 use Prim.Native.Nat.{Ordering}
-use mathlib.Core.Path.{refl, sym, ◌∙◌}
+use mathlib.Core.Path.{refl}
 use Rattle.formula.specs.declared.Sort.TheVariants.{Intervals}
 use Rattle.operations.specs.declared.Op.TheVariants.{DSubst}
 use Rattle.formula.specs.Operations.{subst}

@@ -1,6 +1,7 @@
 use native.Mathlib.Omega.{arith}
 use mathlib.Core.Path.{ap}
-use lib.ListN.{length}
+use lib.ListN.{length, length-append}
+use mathlib.Core.List.{◌++◌}
 use Rattle.steps.proofs.RunLaws.{emits-same, emits-kind}
 use Rattle.steps.proofs.TreeLaws.{is-short}
 use Rattle.transforms.proofs.TransformLaws.{place-of-shift, known-subst, shift-operands, subst-operands}
@@ -16,7 +17,7 @@ number-requires-in-DSubst c = let a = c.args in
 
 pub emit-requires-in-DSubst : goal.emit-requires-in-DSubst
 emit-requires-in-DSubst c = let a = c.args in
-    (c.requires.0, omega (arith, c.requires.2, c.requires.3, is-short (known-subst a.t.now a.op _ c.in-DSubst.is c.requires.4).1, ap length c.number-in-DSubst.ensures))
+    (c.requires.0, omega (arith, c.requires.2, c.requires.3, is-short (known-subst a.t.now a.op _ c.in-DSubst.is c.requires.4).1, ap length c.number-in-DSubst.ensures, length-append a.f.now (c.number-in-DSubst.result ++ (a.t.now ++ a.out.now)), length-append c.number-in-DSubst.result (a.t.now ++ a.out.now), length-append a.t.now a.out.now))
 
 pub returns-in-DShift : goal.returns-in-DShift
 returns-in-DShift c = let a = c.args in
