@@ -11,8 +11,7 @@ use Rattle.calculus.specs.Record.{operand_bytes}
 use Rattle.calculus.specs.Emit.{Program, emit, ◌>>=◌}
 use Rattle.calculus.proofs.Growing.{Limited}
 use Rattle.ledger.specs.Ledger.{steps_of}
-use Rattle.steps.specs.declared.Ran.{Ran}
-use Rattle.steps.specs.Running.{Book, done_by, step_by, Runs, Emits}
+use Rattle.steps.specs.Running.{Ran, Book, done_by, step_by, Runs, Emits}
 use Rattle.steps.proofs.RunLaws.{runs-next, runs-stop, runs-below, runs-more, emits-by}
 
 -- A step of this kind and judgement that refers to step i.

@@ -4,21 +4,20 @@ use native.Mathlib.Omega.{arith}
 use native.Mathlib.Decide.{ℕ_discrete}
 use mathlib.Core.Path.{◌≡◌, refl, sym, ap, ap₂, ◌∙◌, subst}
 use mathlib.Core.Bool.{Bool, true, false, ◌||◌, decide, false≢true}
-use mathlib.Core.List.{List, [], ◌∷◌, ◌++◌}
-use lib.ListN.{length, get_or, set, take, replicate, length-set, length-replicate}
-use lib.Seq.{take-suc, take-length, get_or-set_same, get_or-set_other}
+use mathlib.Core.List.{List, [], ◌∷◌, ◌++◌, append_assoc, append-nil}
+use lib.ListN.{length, get_or, set, replicate, length-set, length-replicate}
+use lib.Seq.{get_or-set_same, get_or-set_other}
 use Rattle.formula.specs.declared.Sort.TheVariants.{Faces}
 use Rattle.formula.specs.Formula.{End, lo, hi, Face, ff, ft, at, fand, for}
 use Rattle.formula.specs.Bytes.{encode_face, bound_face}
-use Rattle.formula.specs.Answers.{part_at}
 use Rattle.calculus.specs.Judgement.{same_face}
 use Rattle.calculus.specs.Record.{bound_context}
 use Rattle.calculus.specs.Search.{Move, by-clash, stuck, ◌else◌, provided, has, clash_of, try_clash}
 use Rattle.steps.specs.Trees.{Is}
-use Rattle.contexts.specs.Contexts.{Are}
+use Rattle.contexts.specs.declared.context.Context.{Context}
+use Rattle.contexts.specs.Faces.{faces_of, First}
 use Rattle.contexts.specs.Moves.{Meets}
 use Rattle.contexts.proofs.MoveLaws.{has_same, has_other}
-use Rattle.contexts.proofs.PassLaws.{Standing, standing-start, standing-at, standing-turn, standing-end}
 
 -- The number of a literal in the table, and that of its opposite.
 abbrev slot_of : End → ℕ → ℕ
@@ -51,16 +50,16 @@ among f (y ∷ L) x e = go (λ h. among f L x h) (same_face f y) e
     go r (yes p) h = before (sym (has_same f y L p))
     go r (no p) h = lift (r h) (λ k. sym (has_other f y L p) ∙ k)
 
--- What the table says of the first faces.
-pub record Met (G : List Face) (n : ℕ) (s : List ℕ) (i place : ℕ) : Type 0 where
-  pub stands : Standing G n i place
+-- What the table says of the faces L that were met, in front of the others R.
+pub record Met (G : List Face) (s : List ℕ) (L R : List Face) : Type 0 where
+  pub whole : G ≡ L ++ R
   pub long : length s ≡ 512
-  pub kept : (e : End) (k : ℕ) → k < 255 → has (at e k) (take i G) ≡ true → get_or s (slot_of e k) 0 ≡ 1
-  pub apart : (k : ℕ) → k < 255 → has (at lo k) (take i G) ≡ true → has (at hi k) (take i G) ≡ true → ⊥
+  pub kept : (e : End) (k : ℕ) → k < 255 → has (at e k) L ≡ true → get_or s (slot_of e k) 0 ≡ 1
+  pub apart : (k : ℕ) → k < 255 → has (at lo k) L ≡ true → has (at hi k) L ≡ true → ⊥
 
-pub met_start : (G : List Face) (n : ℕ) (s : List ℕ) → s ≡ replicate 512 0 → Met G n s 0 0
+pub met_start : (G : List Face) (s : List ℕ) → s ≡ replicate 512 0 → Met G s [] G
 unfolding has
-met_start G n s e = record { stands = standing-start G n; long = ap length e ∙ length-replicate {A = ℕ} 512 0; kept = λ f k b h. absurd (false≢true h); apart = λ k b h i. false≢true h }
+met_start G s e = record { whole = refl; long = ap length e ∙ length-replicate {A = ℕ} 512 0; kept = λ f k b h. absurd (false≢true h); apart = λ k b h i. false≢true h }
 
 -- The bytes of a literal, and of another face.
 data View (x : Face) (l : List ℕ) : Type 0 where
@@ -83,28 +82,24 @@ view (at hi n) l w =
 view (fand y z) l w = large (λ e k h. let z : ◌≡◌ {A = ℕ} 0 1 = cc in omega arith) (omega (arith, ap (λ (m : List ℕ). get_or m 0 0) w.bytes))
 view (for y z) l w = large (λ e k h. let z : ◌≡◌ {A = ℕ} 0 1 = cc in omega arith) (omega (arith, ap (λ (m : List ℕ). get_or m 0 0) w.bytes))
 
-module _ {G : List Face} {n : ℕ} {g s : List ℕ} (w : Are G n g) {i place : ℕ} (p : Met G n s i place) (b : i < n) {h s' : List ℕ} (q : h ≡ part_at Faces g place) {r : Bool} (m : Meets h s r s') (t : r ≡ true) where
-  abbrev x : Face
-  x = get_or G i ff
+module _ {G L R : List Face} {x : Face} {s h s' : List ℕ} (p : Met G s L (x ∷ R)) (out : Is Faces x h) {r : Bool} (m : Meets h s r s') (t : r ≡ true) where
+  split : (f : Face) → has f (L ++ x ∷ []) ≡ true → Among f L x
+  split f e = among f L x e
 
-  more : take (suc i) G ≡ take i G ++ x ∷ []
-  more = take-suc G i ff (omega (arith, w.count))
-
-  split : (f : Face) → has f (take (suc i) G) ≡ true → Among f (take i G) x
-  split f e = among f (take i G) x (ap (has f) (sym more) ∙ e)
+  whole : G ≡ (L ++ x ∷ []) ++ R
+  whole = p.whole ∙ sym (append_assoc L (x ∷ []) R)
 
   -- A face that is no literal changes nothing.
   module _ (other : (e : End) (k : ℕ) → at e k ≡ x → ⊥) (same : s' ≡ s) where
-    old : (e : End) (k : ℕ) → has (at e k) (take (suc i) G) ≡ true → has (at e k) (take i G) ≡ true
+    old : (e : End) (k : ℕ) → has (at e k) (L ++ x ∷ []) ≡ true → has (at e k) L ≡ true
     old e k u = go (split (at e k) u)
       where
-        go : Among (at e k) (take i G) x → has (at e k) (take i G) ≡ true
+        go : Among (at e k) L x → has (at e k) L ≡ true
         go (before h) = h
         go (last h) = absurd (other e k h)
 
-    plain : {i' place' : ℕ} → i' ≡ suc i → Standing G n i' place' → Met G n s' i' place'
-    plain {i'} {place'} z d = subst (λ (j : ℕ). Standing G n j place' → Met G n s' j place') (sym z)
-        (λ d'. record { stands = d'; long = ap length same ∙ p.long; kept = λ e k c u. ap (λ (y : List ℕ). get_or y (slot_of e k) 0) same ∙ p.kept e k c (old e k u); apart = λ k c u v. p.apart k c (old lo k u) (old hi k v) }) d
+    plain : Met G s' (L ++ x ∷ []) R
+    plain = record { whole = whole; long = ap length same ∙ p.long; kept = λ e k c u. ap (λ (y : List ℕ). get_or y (slot_of e k) 0) same ∙ p.kept e k c (old e k u); apart = λ k c u v. p.apart k c (old lo k u) (old hi k v) }
 
   -- A literal is kept, and its opposite was not met.
   module _ (e₀ : End) (k₀ : ℕ) (is : x ≡ at e₀ k₀) (low : k₀ < 255) (new : s' ≡ set s (slot_of e₀ k₀) 1) (free : get_or s (beside_of e₀ k₀) 0 ≡ 0) where
@@ -122,10 +117,10 @@ module _ {G : List Face} {n : ℕ} {g s : List ℕ} (w : Are G n g) {i place : �
     here : get_or s' (slot_of e₀ k₀) 0 ≡ 1
     here = ap (λ (y : List ℕ). get_or y (slot_of e₀ k₀) 0) new ∙ get_or-set_same s (slot_of e₀ k₀) 1 0 (inside e₀)
 
-    kept_more : (e : End) (k : ℕ) → k < 255 → has (at e k) (take (suc i) G) ≡ true → get_or s' (slot_of e k) 0 ≡ 1
+    kept_more : (e : End) (k : ℕ) → k < 255 → has (at e k) (L ++ x ∷ []) ≡ true → get_or s' (slot_of e k) 0 ≡ 1
     kept_more e k c u = go (split (at e k) u)
       where
-        go : Among (at e k) (take i G) x → get_or s' (slot_of e k) 0 ≡ 1
+        go : Among (at e k) L x → get_or s' (slot_of e k) 0 ≡ 1
         go (before h) = stays e k (p.kept e k c h)
         go (last h) =
             let y : at e k ≡ at e₀ k₀ = h ∙ is in
@@ -133,10 +128,10 @@ module _ {G : List Face} {n : ℕ} {g s : List ℕ} (w : Are G n g) {i place : �
             let z₂ : k ≡ k₀ = cc in
             rw (z₁, z₂) here
 
-    apart_more : (k : ℕ) → k < 255 → has (at lo k) (take (suc i) G) ≡ true → has (at hi k) (take (suc i) G) ≡ true → ⊥
+    apart_more : (k : ℕ) → k < 255 → has (at lo k) (L ++ x ∷ []) ≡ true → has (at hi k) (L ++ x ∷ []) ≡ true → ⊥
     apart_more k c u v = go (split (at lo k) u) (split (at hi k) v)
       where
-        go : Among (at lo k) (take i G) x → Among (at hi k) (take i G) x → ⊥
+        go : Among (at lo k) L x → Among (at hi k) L x → ⊥
         go (before f) (before g) = p.apart k c f g
         go (before f) (last g) =
             let y : at hi k ≡ at e₀ k₀ = g ∙ is in
@@ -152,24 +147,16 @@ module _ {G : List Face} {n : ℕ} {g s : List ℕ} (w : Are G n g) {i place : �
             omega (arith, p.kept hi k c g, a)
         go (last f) (last g) = let y : at lo k ≡ at hi k = f ∙ sym g in let z : ◌≡◌ {A = ℕ} 0 1 = cc in omega arith
 
-    noted : {i' place' : ℕ} → i' ≡ suc i → Standing G n i' place' → Met G n s' i' place'
-    noted {i'} {place'} z d = subst (λ (j : ℕ). Standing G n j place' → Met G n s' j place') (sym z)
-        (λ d'. record { stands = d'; long = ap length new ∙ length-set s (slot_of e₀ k₀) 1 ∙ p.long; kept = kept_more; apart = apart_more }) d
+    noted : Met G s' (L ++ x ∷ []) R
+    noted = record { whole = whole; long = ap length new ∙ length-set s (slot_of e₀ k₀) 1 ∙ p.long; kept = kept_more; apart = apart_more }
 
-  pub met-turn : {i' place' : ℕ} → i' ≡ i + 1 → place' ≡ place + length h → Met G n s' i' place'
-  met-turn {i'} {place'} u v = go (view x h (standing-at w p.stands b q).out)
+  pub met-turn : Met G s' (L ++ x ∷ []) R
+  met-turn = go (view x h out)
     where
-      z : i' ≡ suc i
-      z = omega arith
-
-      d : Standing G n i' place'
-      d = standing-turn w p.stands b q u v
-
-      go : View x h → Met G n s' i' place'
-      go (literal e k is low c₁ c₂ y₁ y₂) =
-          noted e k is low (m.keeps c₁ c₂ ∙ ap (λ (j : ℕ). set s j 1) y₁) (ap (λ (j : ℕ). get_or s j 0) (sym y₂) ∙ m.free c₁ c₂ t) z d
-      go (small out c) = plain out (m.other c) z d
-      go (large out c) = plain out (m.compounds c) z d
+      go : View x h → Met G s' (L ++ x ∷ []) R
+      go (literal e k is low c₁ c₂ y₁ y₂) = noted e k is low (m.keeps c₁ c₂ ∙ ap (λ (j : ℕ). set s j 1) y₁) (ap (λ (j : ℕ). get_or s j 0) (sym y₂) ∙ m.free c₁ c₂ t)
+      go (small o c) = plain o (m.other c)
+      go (large o c) = plain o (m.compounds c)
 
 -- Where no two opposites are in the context, nothing clashes.
 free_of : (G : List Face) → ((k : ℕ) → has (at lo k) G ≡ true → has (at hi k) G ≡ true → ⊥) → (f : Face) → has f G ≡ true → clash_of G f ≡ stuck
@@ -207,10 +194,18 @@ literal-low (x ∷ G) e k h = go (literal-low G e k) (same_face (at e k) x) h
     go r (yes p) i = let z : bound_face x ≡ suc k = ap bound_face (sym p) in omega arith
     go r (no p) i = omega (arith, r i)
 
-pub met-end : {G : List Face} {n : ℕ} {g s : List ℕ} → Are G n g → {i place : ℕ} → Met G n s i place → n ≤ i → try_clash G G ≡ stuck
-met-end {G} w {i} p b =
-    let z : take i G ≡ G = ap (λ (j : ℕ). take j G) (standing-end w p.stands b) ∙ take-length G in
-    none-clash G (λ k u v. p.apart k (omega (arith, literal-low G lo k u, w.low)) (ap (has (at lo k)) z ∙ u) (ap (has (at hi k)) z ∙ v)) G (λ f e. e)
+-- The loop over the faces.
+abbrev pub MetAll : Context → List ℕ → Context → Type 0
+MetAll g s d = (L : List Face) × Met (faces_of g) s L (faces_of d)
+
+pub met-next : (g : Context) {d d' : Context} {s s' h : List ℕ} {r : Bool} → MetAll g s d → First d h d' → Meets h s r s' → r ≡ true → MetAll g s' d'
+met-next g {s = s} v f m t = (v.0 ++ f.first ∷ [], met-turn (subst (λ (R : List Face). Met (faces_of g) s v.0 R) f.whole v.1) f.face m t)
+
+pub met-end : (g d : Context) {s : List ℕ} → MetAll g s d → faces_of d ≡ [] → try_clash (faces_of g) (faces_of g) ≡ stuck
+met-end g d v e =
+    let G = faces_of g in
+    let z : v.0 ≡ G = sym (append-nil v.0) ∙ ap (λ (R : List Face). v.0 ++ R) (sym e) ∙ sym v.1.whole in
+    none-clash G (λ k u w. v.1.apart k (omega (arith, literal-low G lo k u, g.sound.low)) (ap (has (at lo k)) z ∙ u) (ap (has (at hi k)) z ∙ w)) G (λ f e. e)
 
 -- What is met, by its first byte.
 module _ {l s : List ℕ} {b : ℕ} (e : b ≡ get_or l 0 0) where

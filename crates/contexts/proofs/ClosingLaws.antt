@@ -4,7 +4,7 @@ use native.Mathlib.Omega.{arith}
 use mathlib.Core.Path.{◌≡◌, refl, sym, ap, ap₂, ◌∙◌, subst}
 use mathlib.Core.Bool.{true, false}
 use mathlib.Core.List.{List, [], ◌∷◌, ◌++◌, append_assoc}
-use lib.ListN.{length, take}
+use lib.ListN.{length, take, length-append}
 use lib.Seq.{sets}
 use Rattle.formula.specs.declared.Sort.TheVariants.{Faces}
 use Rattle.formula.specs.Formula.{lo, hi, Face, ff, ft, at}
@@ -15,11 +15,9 @@ use Rattle.calculus.specs.Record.{little_endian, operand_bytes}
 use Rattle.calculus.specs.Emit.{emit}
 use Rattle.calculus.specs.Calls.{emit_member}
 use Rattle.calculus.proofs.Growing.{Limited, limited-allowed}
-use Rattle.index.specs.declared.Found.{Found}
-use Rattle.index.specs.declared.Found.TheVariants.{At, Absent}
+use Rattle.std.specs.Prelude.{Result, Ok, Err}
 use Rattle.index.specs.Index.{Knows}
-use Rattle.steps.specs.declared.Ran.{Ran}
-use Rattle.steps.specs.Running.{Book, done_by, step_by, Runs, Emits}
+use Rattle.steps.specs.Running.{Ran, Book, done_by, step_by, Runs, Emits}
 use Rattle.steps.specs.Trees.{Is}
 use Rattle.formula.specs.Answers.{tree_of}
 use Rattle.steps.proofs.RunLaws.{emits-by}
@@ -37,8 +35,8 @@ module _ {G : List Face} {g : Face} {n : ℕ} {l k : List ℕ} (w : Are G n l) (
   pub cover-bytes : {c : List ℕ} → c ≡ little_endian 2 n → operand_bytes (cover G g) ≡ c ++ (l ++ k)
   cover-bytes {c} e = ap₂ (λ (x y : List ℕ). x ++ y) (field w e) (sym a.bytes) ∙ append_assoc c l k
 
-  pub cover-short : {c : List ℕ} → c ≡ little_endian 2 n → length c + length l + length k ≤ 4096
-  cover-short e = omega (arith, ap length e, context-short w, is-short a)
+  pub cover-short : {c : List ℕ} → c ≡ little_endian 2 n → length (c ++ (l ++ k)) ≤ 4096
+  cover-short {c} e = omega (arith, ap length e, context-short w, is-short a, length-append c (l ++ k), length-append l k)
 
   -- The operands, written part by part.
   pub cover-written : {c : List ℕ} → c ≡ little_endian 2 n → (z z₁ z₂ z₃ : List ℕ) → 2048 ≤ length z → z₁ ≡ sets z 0 c → z₂ ≡ sets z₁ 2 l → z₃ ≡ sets z₂ (2 + length l) k
@@ -49,9 +47,9 @@ module _ {G : List Face} {g : Face} {n : ℕ} {l k : List ℕ} (w : Are G n l) (
       (v.0, v.1 ∙ sym (cover-bytes e))
 
   -- What is known of the search, by the operands' bytes.
-  pub cover-known : (L : List Step) (o : List ℕ) (r : Found) → operand_bytes (cover G g) ≡ o → Knows L o r → Settled L G g r
-  cover-known L o (At i) e h = h G g (limited-allowed (cover G g) cover-limited) e
-  cover-known L o (Absent n) e h = tt
+  pub cover-known : (L : List Step) (o : List ℕ) (r : Result ℕ ℕ) → operand_bytes (cover G g) ≡ o → Knows L o r → Settled L G g r
+  cover-known L o (Ok i) e h = h G g (limited-allowed (cover G g) cover-limited) e
+  cover-known L o (Err n) e h = tt
 
 pub by-member-stop : {l l₁ : Book} {r : Ran} (kind : ℕ) (f : Face) (G : List Face) (g : Face) → Runs l (emit_member f G) r l₁ → done_by r ≡ false → Runs l (cover_by kind f G g) r l₁
 by-member-stop kind f G g h d = after_stop {kind = kind} {j = cover G g} refl h d

@@ -17,14 +17,19 @@ use Rattle.calculus.proofs.Fields.{read-faces}
 use Rattle.calculus.proofs.Searching.{nodes-positive}
 use Rattle.steps.specs.Trees.{Is}
 use Rattle.formula.proofs.Nodes.{len_short}
-use Rattle.contexts.specs.Contexts.{Are, faces_in, context_of, Context}
+use Rattle.contexts.specs.Contexts.{Are, faces_in, context_of, Sound}
+use Rattle.contexts.specs.declared.context.Context.{Context}
+use Rattle.std.specs.Prelude.{Option, None, Some}
+use Rattle.std.specs.Option.{IsSome}
+use Rattle.std.specs.Borrow.{Bor}
+use Rattle.contexts.specs.Faces.{faces_of, First, Splits}
 
 -- The bytes of a context are read as it.
 pub context-of : {G : List Face} {n : ℕ} {l : List ℕ} → Are G n l → context_of n l ≡ G
 unfolding context_of
 context-of {G} h = ap₂ (λ (k : ℕ) (m : List ℕ). faces_in (read_faces k m)) h.count (h.bytes ∙ sym (append-nil (faces_bytes G))) ∙ ap faces_in (read-faces G [])
 
-pub context-as : {G : List Face} {n : ℕ} {l : List ℕ} → Are G n l → Context n l
+pub context-as : {G : List Face} {n : ℕ} {l : List ℕ} → Are G n l → Sound n l
 context-as {n} {l} h = subst (λ (H : List Face). Are H n l) (sym (context-of h)) h
 
 -- A context takes at most two bytes for each node, so it has at most 1,022.
@@ -57,15 +62,15 @@ pub tail-append : (h m l : List ℕ) → l ≡ h ++ m → tail (length h) l ≡ 
 tail-append h m l e = take_all (length l - length h) (drop (length h) l) (omega (arith, length-drop (length h) l)) ∙ ap (drop (length h)) e ∙ drop-append_seam h m
 
 -- The first face of a context that has one, with the bytes h, and the others.
-pub record First (G : List Face) (n : ℕ) (l h : List ℕ) : Type 0 where
-  pub first : Face
-  pub rest : List Face
-  pub whole : G ≡ first ∷ rest
-  pub face : Is Faces first h
-  pub inside : length h ≤ length l
-  pub others : Are rest (n - 1) (tail (length h) l)
+record Front (G : List Face) (n : ℕ) (l h : List ℕ) : Type 0 where
+  first : Face
+  rest : List Face
+  whole : G ≡ first ∷ rest
+  face : Is Faces first h
+  inside : length h ≤ length l
+  others : Are rest (n - 1) (tail (length h) l)
 
-pub first_of : (G : List Face) (n : ℕ) (l h : List ℕ) → Are G n l → (n ≡ 0 → ⊥) → h ≡ part_at Faces l 0 → First G n l h
+first_of : (G : List Face) (n : ℕ) (l h : List ℕ) → Are G n l → (n ≡ 0 → ⊥) → h ≡ part_at Faces l 0 → Front G n l h
 unfolding faces_bytes nodes_context bound_context part_at
 first_of [] n l h w z e = absurd (z w.count)
 first_of (f ∷ G) n l h w z e =
@@ -79,3 +84,34 @@ first_of (f ∷ G) n l h w z e =
       inside = omega (arith, ap length q, length-append h (faces_bytes G));
       others = record { bytes = tail-append h (faces_bytes G) l q; count = omega (arith, w.count); few = omega (arith, w.few); low = omega (arith, w.low) };
     }
+
+-- Where the count is 0 there is no face; else the first face's bytes stand in front.
+pub none-of : (g : Context) → g.count ≡ 0 → faces_of g ≡ []
+none-of g e = go (faces_of g) (sym e ∙ g.sound.count)
+  where
+    go : (G : List Face) → 0 ≡ length G → G ≡ []
+    go [] h = refl
+    go (f ∷ G) h = absurd (omega arith)
+
+-- A context with faces is split.
+pub some-of : (g : Context) (r : Option (Bor (List ℕ) × Context)) → Splits g r → (faces_of g ≡ [] → ⊥) → IsSome r
+some-of g None s z = absurd (z s)
+some-of g (Some y) s z = refl
+
+module _ (g : Context) (h : List ℕ) (z : g.count ≡ 0 → ⊥) (p : h ≡ part_at Faces g.faces.now 0) where
+  front : Front (faces_of g) g.count g.faces.now h
+  front = first_of (faces_of g) g.count g.faces.now h g.sound z p
+
+  pub front-inside : length h ≤ length g.faces.now
+  front-inside = front.inside
+
+  pub front-others : Sound (g.count - 1) (tail (length h) g.faces.now)
+  front-others = context-as front.others
+
+  pub front-first : (d : Context) → d.count ≡ g.count - 1 → d.faces.now ≡ tail (length h) g.faces.now → First g h d
+  front-first d e f = record {
+    first = front.first;
+    face = front.face;
+    whole = front.whole ∙ ap (λ (G : List Face). front.first ∷ G) (sym (context-of front.others) ∙ ap₂ context_of (sym e) (sym f));
+    count = omega (arith, e);
+  }

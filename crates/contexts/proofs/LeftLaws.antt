@@ -14,8 +14,10 @@ use Rattle.calculus.specs.Search.{nodes_context}
 use Rattle.calculus.specs.Record.{faces_bytes, bound_context}
 use Rattle.calculus.proofs.Searching.{left_out, nodes-left-out}
 use Rattle.records.proofs.NumberLaws.{sets-append}
-use Rattle.contexts.specs.Contexts.{Are, context_of, leave, LeftOut, cut, At}
-use Rattle.contexts.proofs.ContextLaws.{context-of, context-short, tail, First, first_of}
+use Rattle.contexts.specs.declared.context.Context.{Context}
+use Rattle.contexts.specs.Contexts.{Are, leave, cut, At}
+use Rattle.contexts.specs.Faces.{faces_of, First}
+use Rattle.contexts.proofs.ContextLaws.{context-short, tail}
 
 pub faces-append : (b a : List Face) → faces_bytes (b ++ a) ≡ faces_bytes b ++ faces_bytes a
 unfolding faces_bytes
@@ -34,15 +36,16 @@ unfolding faces_bytes
 one_more zero f H z = absurd (z refl)
 one_more (suc i) f H z = let e : i ≡ suc i - 1 = omega arith in ap (λ (k : ℕ). encode_face f ++ faces_bytes (take k H)) e
 
-module _ {G : List Face} {i n : ℕ} {g h : List ℕ} (w : Are G n g) (b : i ≤ n) (z : i ≡ 0 → ⊥) (p : h ≡ part_at Faces g 0) where
-  pub offset-first : First G n g h
-  offset-first = first_of G n g h w (λ e. z (omega arith)) p
+pub offset-none : (i : ℕ) {G : List Face} → G ≡ [] → 0 ≡ length (faces_bytes (take i G))
+unfolding faces_bytes
+offset-none zero e = refl
+offset-none (suc i) e = sym (ap (λ (G : List Face). length (faces_bytes (take (suc i) G))) e)
 
-  pub offset_up : {r : ℕ} → r ≡ length (faces_bytes (take (i - 1) (context_of (n - 1) (tail (length h) g)))) → length h + r ≡ length (faces_bytes (take i G))
-  offset_up {r} e =
-      let v = offset-first in
-      let q : faces_bytes (take i G) ≡ h ++ faces_bytes (take (i - 1) v.rest) = ap (λ (K : List Face). faces_bytes (take i K)) v.whole ∙ one_more i v.first v.rest z ∙ ap (λ (m : List ℕ). m ++ faces_bytes (take (i - 1) v.rest)) (sym v.face.bytes) in
-      omega (arith, e ∙ ap (λ (K : List Face). length (faces_bytes (take (i - 1) K))) (context-of v.others), ap length q, length-append h (faces_bytes (take (i - 1) v.rest)))
+pub offset_up : {g d : Context} {h : List ℕ} (v : First g h d) (i : ℕ) {r : ℕ} → (i ≡ 0 → ⊥) → r ≡ length (faces_bytes (take (i - 1) (faces_of d))) → length h + r ≡ length (faces_bytes (take i (faces_of g)))
+offset_up {g} {d} {h} v i z e =
+    let q : faces_bytes (take i (faces_of g)) ≡ h ++ faces_bytes (take (i - 1) (faces_of d)) =
+    ap (λ (K : List Face). faces_bytes (take i K)) v.whole ∙ one_more i v.first (faces_of d) z ∙ ap (λ (m : List ℕ). m ++ faces_bytes (take (i - 1) (faces_of d))) (sym v.face.bytes) in
+    omega (arith, e, ap length q, length-append h (faces_bytes (take (i - 1) (faces_of d))))
 
 pub prefix-short : {G : List Face} {n : ℕ} {g : List ℕ} → Are G n g → (i : ℕ) → length (faces_bytes (take i G)) ≤ 1022
 prefix-short {G} {g} w i =
@@ -72,9 +75,6 @@ module _ {G : List Face} {i at n : ℕ} {x g : List ℕ} (w : At G i x at n g) w
 
   pub cut_short : length (cut at (at + length x) g) ≤ 1022
   cut_short = omega (arith, context-short w.whole, at-end, length-append (take at g) (drop (at + length x) g), length-take-le at g (omega (arith, at-end)), length-drop (at + length x) g)
-
-  pub at-leaves : {d : List ℕ} → d ≡ cut at (at + length x) g → LeftOut G i x n g d
-  at-leaves e = record { whole = w.whole; inside = w.inside; out = w.out; others = e ∙ at_cut }
 
 bound_of : (b : List Face) (f : Face) (a : List Face) → bound_face f ≤ bound_context (b ++ f ∷ a)
 unfolding bound_context

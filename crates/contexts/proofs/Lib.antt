@@ -1,9 +1,8 @@
-pub mod AfterLaws
 pub mod ContextLaws
+pub mod AfterLaws
 pub mod MemberLaws
-pub mod TakeLaws
 pub mod MoveLaws
 pub mod LeftLaws
-pub mod ClosingLaws
-pub mod PassLaws
 pub mod ClashLaws
+pub mod TakeLaws
+pub mod ClosingLaws

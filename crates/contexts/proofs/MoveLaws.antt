@@ -1,25 +1,24 @@
 -- The tests of a context, face by face.
 use Prim.Native.Nat.{ℕ, suc, ◌+◌, ◌-◌, ◌≤◌, ◌<◌}
 use native.Mathlib.Omega.{arith}
-use mathlib.Core.Path.{◌≡◌, refl, sym, ap, ap₂, ◌∙◌, subst, subst₂}
+use mathlib.Core.Path.{◌≡◌, refl, sym, ap, ◌∙◌, subst, subst₂}
 use mathlib.Core.Bool.{Bool, true, false, ◌||◌, decide, false≢true}
 use mathlib.Core.List.{List, [], ◌∷◌, ◌++◌, append_assoc, append-nil}
 use lib.ListN.{length, get_or, take, drop}
 use Rattle.formula.specs.declared.Sort.TheVariants.{Faces}
 use Rattle.formula.specs.Formula.{lo, hi, end_of, Face, ff, ft, at, fand, for}
 use Rattle.formula.specs.Bytes.{dim_bytes, encode_face, nodes_face, bound_face}
-use Rattle.formula.specs.Answers.{part_at, tree_of}
+use Rattle.formula.specs.Answers.{tree_of}
 use Rattle.formula.proofs.Nodes.{literal-kind}
 use Rattle.formula.proofs.Reading.{encode-pos}
 use Rattle.calculus.specs.Judgement.{same_face}
 use Rattle.calculus.specs.Search.{Move, by-clash, stuck, ◌else◌, provided, has, clash_of, try_clash, split_of, try_left}
 use Rattle.steps.specs.Trees.{Is, Known}
 use Rattle.steps.proofs.TreeLaws.{tree-of, known}
-use Rattle.contexts.specs.declared.moves.Clash.{Clash}
-use Rattle.contexts.specs.declared.moves.Clash.TheVariants.{Of, Free}
-use Rattle.contexts.specs.Contexts.{Are, context_of}
-use Rattle.contexts.specs.Moves.{clash_by, compound, FirstCompound}
-use Rattle.contexts.proofs.ContextLaws.{context-of, tail, first_of}
+use Rattle.std.specs.Prelude.{Option, None, Some}
+use Rattle.contexts.specs.declared.context.Context.{Context}
+use Rattle.contexts.specs.Faces.{faces_of, First}
+use Rattle.contexts.specs.Moves.{clash_by, compound, Compound, FirstCompound}
 
 -- A face in front, and another one.
 pub has_same : (f x : Face) (H : List Face) → f ≡ x → true ≡ has f (x ∷ H)
@@ -37,6 +36,10 @@ has_other f x H e = go (same_face f x)
     go : (d : Dec (f ≡ x)) → has f H ≡ (decide d || has f H)
     go (yes p) = absurd (e p)
     go (no p) = refl
+
+pub has-none : (f : Face) {G : List Face} → G ≡ [] → false ≡ has f G
+unfolding has
+has-none f e = sym (ap (has f) e)
 
 -- The first byte of a face.
 abbrev pub kind : Face → ℕ
@@ -140,41 +143,38 @@ module _ {x : Face} {l : List ℕ} {b : ℕ} (o : Opposite x l b) {c k : ℕ} (w
   opposite-free G h i = sym (clashes G false (sym i ∙ h))
 
 -- The first clash, by the first face.
-pub clash-none : {G : List Face} {n : ℕ} {g : List ℕ} (K : List Face) → Are G n g → n ≡ 0 → stuck ≡ try_clash K G
+pub clash-none : {G : List Face} (K : List Face) → G ≡ [] → stuck ≡ try_clash K G
 unfolding try_clash
-clash-none {G = []} K w e = refl
-clash-none {G = x ∷ G} K w e = absurd (omega (arith, w.count))
+clash-none K e = sym (ap (try_clash K) e)
 
 clash-cons : (K : List Face) (f : Face) (H : List Face) → try_clash K (f ∷ H) ≡ (clash_of K f else try_clash K H)
 unfolding try_clash
 clash-cons K f H = refl
 
-module _ (K : List Face) {G : List Face} {n : ℕ} {g h : List ℕ} (w : Are G n g) (z : n ≡ 0 → ⊥) (p : h ≡ part_at Faces g 0) where
-  pub clash-first : try_clash K G ≡ (clash_of K (tree_of Faces h) else try_clash K (context_of (n - 1) (tail (length h) g)))
+module _ (K : List Face) {g d : Context} {h : List ℕ} (v : First g h d) where
+  clash-first : try_clash K (faces_of g) ≡ (clash_of K (tree_of Faces h) else try_clash K (faces_of d))
   clash-first =
-      let v = first_of G n g h w z p in
-      ap (try_clash K) v.whole ∙ clash-cons K v.first v.rest
-      ∙ ap₂ (λ (f : Face) (H : List Face). clash_of K f else try_clash K H) (sym (tree-of v.face)) (sym (context-of v.others))
+      ap (try_clash K) v.whole ∙ clash-cons K v.first (faces_of d)
+      ∙ ap (λ (f : Face). clash_of K f else try_clash K (faces_of d)) (sym (tree-of v.face))
 
-  pub clash-here : {r : Clash} {k : ℕ} → clash_by r ≡ clash_of K (tree_of Faces h) → r ≡ Of k → by-clash k ≡ try_clash K G
-  clash-here {k} e f = sym (clash-first ∙ ap (λ (m : Move). m else try_clash K (context_of (n - 1) (tail (length h) g))) (sym e ∙ ap clash_by f))
+  pub clash-here : {r : Option ℕ} {k : ℕ} → clash_by r ≡ clash_of K (tree_of Faces h) → r ≡ Some k → by-clash k ≡ try_clash K (faces_of g)
+  clash-here {k} e f = sym (clash-first ∙ ap (λ (m : Move). m else try_clash K (faces_of d)) (sym e ∙ ap clash_by f))
 
-  pub clash-there : {r : Clash} {m : Move} → clash_by r ≡ clash_of K (tree_of Faces h) → r ≡ Free → m ≡ try_clash K (context_of (n - 1) (tail (length h) g)) → m ≡ try_clash K G
-  clash-there e f i = i ∙ sym (clash-first ∙ ap (λ (m : Move). m else try_clash K (context_of (n - 1) (tail (length h) g))) (sym e ∙ ap clash_by f))
+  pub clash-there : {r : Option ℕ} {m : Move} → clash_by r ≡ clash_of K (tree_of Faces h) → r ≡ None → m ≡ try_clash K (faces_of d) → m ≡ try_clash K (faces_of g)
+  clash-there e f i = i ∙ sym (clash-first ∙ ap (λ (m : Move). m else try_clash K (faces_of d)) (sym e ∙ ap clash_by f))
 
 -- The first compound, by the first face.
-pub compound-none : {G : List Face} {n : ℕ} {g : List ℕ} → Are G n g → n ≡ 0 → FirstCompound G 0
+pub compound-none : {G : List Face} → G ≡ [] → FirstCompound G None
 unfolding try_left
-compound-none {G = []} w e = record { splits = λ b. refl; there = λ h. absurd (omega arith) }
-compound-none {G = x ∷ G} w e = absurd (omega (arith, w.count))
+compound-none e = λ b. ap (try_left b) e
 
-here : (f : Face) (H : List Face) → compound f ≡ true → FirstCompound (f ∷ H) 0
+here : (f : Face) (H : List Face) → compound f ≡ true → Compound (f ∷ H) 0
 unfolding try_left
 here ff H e = absurd (false≢true e)
 here ft H e = absurd (false≢true e)
 here (at d n) H e = absurd (false≢true e)
-here (fand x y) H e = record { splits = λ b. ap (λ (c : List Face). split_of c (fand x y) H) (sym (append-nil b)); there = λ h. refl }
-here (for x y) H e = record { splits = λ b. ap (λ (c : List Face). split_of c (for x y) H) (sym (append-nil b)); there = λ h. refl }
+here (fand x y) H e = record { inside = omega arith; splits = λ b. ap (λ (c : List Face). split_of c (fand x y) H) (sym (append-nil b)); there = refl }
+here (for x y) H e = record { inside = omega arith; splits = λ b. ap (λ (c : List Face). split_of c (for x y) H) (sym (append-nil b)); there = refl }
 
 simple : (x : Face) → kind x ≤ 3 → (b a : List Face) → split_of b x a ≡ stuck
 unfolding encode_face
@@ -185,23 +185,28 @@ simple (at hi n) h b a = refl
 simple (fand y z) h b a = absurd (omega arith)
 simple (for y z) h b a = absurd (omega arith)
 
-there : (f : Face) (H : List Face) (i : ℕ) → ((b a : List Face) → split_of b f a ≡ stuck) → FirstCompound H i → FirstCompound (f ∷ H) (suc i)
+there : (f : Face) (H : List Face) (i : ℕ) → ((b a : List Face) → split_of b f a ≡ stuck) → Compound H i → Compound (f ∷ H) (suc i)
 unfolding try_left
 there f H i s v = record {
+  inside = omega (arith, v.inside);
   splits = λ b.
       ap (λ (m : Move). m else try_left (b ++ f ∷ []) H) (s b H) ∙ v.splits (b ++ f ∷ [])
       ∙ ap (λ (c : List Face). split_of c (get_or H i ff) (drop (suc i) H)) (append_assoc b (f ∷ []) (take i H));
-  there = λ h. v.there (omega arith);
+  there = v.there;
 }
 
-module _ {G : List Face} {n : ℕ} {g h : List ℕ} (w : Are G n g) (z : n ≡ 0 → ⊥) (p : h ≡ part_at Faces g 0) where
-  pub compound-here : 3 < get_or h 0 0 → FirstCompound G 0
-  compound-here e =
-      let v = first_of G n g h w z p in
-      subst (λ (K : List Face). FirstCompound K 0) (sym v.whole) (here v.first v.rest (compound-kind v.first (omega (arith, first_byte v.face))))
+nowhere : (f : Face) (H : List Face) → ((b a : List Face) → split_of b f a ≡ stuck) → FirstCompound H None → FirstCompound (f ∷ H) None
+unfolding try_left
+nowhere f H s v = λ b. ap (λ (m : Move). m else try_left (b ++ f ∷ []) H) (s b H) ∙ v (b ++ f ∷ [])
 
-  pub compound-there : {i : ℕ} → get_or h 0 0 ≤ 3 → FirstCompound (context_of (n - 1) (tail (length h) g)) i → FirstCompound G (1 + i)
+module _ {g d : Context} {h : List ℕ} (v : First g h d) where
+  pub compound-here : 3 < get_or h 0 0 → FirstCompound (faces_of g) (Some 0)
+  compound-here e = subst (λ (K : List Face). FirstCompound K (Some 0)) (sym v.whole) (here v.first (faces_of d) (compound-kind v.first (omega (arith, first_byte v.face))))
+
+  pub compound-there : {i : ℕ} → get_or h 0 0 ≤ 3 → FirstCompound (faces_of d) (Some i) → FirstCompound (faces_of g) (Some (1 + i))
   compound-there {i} e f =
-      let v = first_of G n g h w z p in
       let s : suc i ≡ 1 + i = omega arith in
-      subst₂ FirstCompound (sym v.whole) s (there v.first v.rest i (simple v.first (omega (arith, first_byte v.face))) (subst (λ (K : List Face). FirstCompound K i) (context-of v.others) f))
+      subst₂ (λ (K : List Face) (k : ℕ). Compound K k) (sym v.whole) s (there v.first (faces_of d) i (simple v.first (omega (arith, first_byte v.face))) f)
+
+  pub compound-nowhere : get_or h 0 0 ≤ 3 → FirstCompound (faces_of d) None → FirstCompound (faces_of g) None
+  compound-nowhere e f = subst (λ (K : List Face). FirstCompound K None) (sym v.whole) (nowhere v.first (faces_of d) (simple v.first (omega (arith, first_byte v.face))) f)

@@ -3,29 +3,30 @@ use Prim.Native.Nat.{ℕ, zero, suc, ◌+◌, ◌-◌, ◌≤◌, ◌<◌, max}
 use native.Mathlib.Omega.{arith}
 use mathlib.Core.Path.{◌≡◌, refl, sym, ap, ap₂, ◌∙◌, subst}
 use mathlib.Core.Bool.{true, false}
-use mathlib.Core.List.{List, [], ◌∷◌, ◌++◌, append_assoc}
+use mathlib.Core.List.{List, [], ◌∷◌, ◌++◌, append_assoc, tail-eq_of_cons-eq}
 use lib.ListN
 use lib.ListN.{length, get_or, drop, length-append}
 use lib.Seq.{split_at}
 use Rattle.formula.specs.declared.Sort.TheVariants.{Faces}
 use Rattle.formula.specs.Formula.{Face, ff}
 use Rattle.formula.specs.Bytes.{nodes_face, bound_face}
-use Rattle.formula.specs.Answers.{part_at}
 use Rattle.calculus.specs.Judgement.{Judgement, take}
 use Rattle.calculus.specs.Rules
 use Rattle.calculus.specs.Search.{nodes_context}
-use Rattle.calculus.specs.Record.{little_endian, faces_bytes, bound_context, operand_bytes}
+use Rattle.calculus.specs.Record.{little_endian, bound_context, operand_bytes}
 use Rattle.calculus.specs.Emit.{Program, emit, ◌>>=◌}
 use Rattle.calculus.specs.Calls.{emit_take}
 use Rattle.calculus.proofs.Growing.{Limited}
-use Rattle.steps.specs.declared.Ran.{Ran}
-use Rattle.steps.specs.Running.{Book, done_by, step_by, Runs, Emits}
+use Rattle.steps.specs.Running.{Ran, Book, done_by, step_by, Runs, Emits}
 use Rattle.steps.specs.Trees.{Is}
 use Rattle.steps.proofs.RunLaws.{emits-by}
 use Rattle.steps.proofs.TreeLaws.{is-short}
-use Rattle.contexts.specs.Contexts.{Are, context_of, leave, LeftOut}
+use Rattle.contexts.specs.declared.context.Context.{Context}
+use Rattle.contexts.specs.Contexts.{Are, context_of, leave, LeftOut, At, cut}
+use Rattle.contexts.specs.Faces.{faces_of, First}
+use Rattle.contexts.proofs.LeftLaws.{at_cut}
 use Rattle.contexts.proofs.AfterLaws.{after, after_stop, after-up}
-use Rattle.contexts.proofs.ContextLaws.{context-of, context-short, field, tail, tail-append, First, first_of}
+use Rattle.contexts.proofs.ContextLaws.{context-of, context-short, field}
 
 -- What is left of a context.
 pub record Less (i : ℕ) (G : List Face) : Type 0 where
@@ -41,27 +42,43 @@ less (suc i) (f ∷ G) h =
     let v = less i G (omega arith) in
     record { count = ap suc v.count; nodes = omega (arith, v.nodes); bound = omega (arith, v.bound) }
 
-module _ {G : List Face} {i n : ℕ} {x g d : List ℕ} (w : LeftOut G i x n g d) where
-  inside : i < length G
-  inside = omega (arith, w.inside, w.whole.count)
+-- The others of a context are one.
+pub at-others : {G : List Face} {i at n : ℕ} {x g d : List ℕ} → At G i x at n g → d ≡ cut at (at + length x) g → Are (leave i G) (n - 1) d
+at-others {G} {i} w e =
+    let v = less i G (omega (arith, w.inside, w.whole.count)) in
+    record { bytes = e ∙ at_cut w; count = omega (arith, v.count, w.whole.count); few = omega (arith, v.nodes, w.whole.few); low = omega (arith, v.bound, w.whole.low) }
 
-  pub left-are : Are (leave i G) (n - 1) d
-  left-are =
-      let v = less i G inside in
-      record { bytes = w.others; count = omega (arith, v.count, w.whole.count); few = omega (arith, v.nodes, w.whole.few); low = omega (arith, v.bound, w.whole.low) }
+pub at-left : {G : List Face} {i at n m : ℕ} {x g d : List ℕ} → At G i x at n g → Are (leave i G) m d → LeftOut G i x (context_of m d)
+at-left w h = record { inside = omega (arith, w.inside, w.whole.count); out = w.out; others = context-of h }
 
+module _ (g d : Context) {i : ℕ} {x : List ℕ} (w : LeftOut (faces_of g) i x (faces_of d)) where
   -- The judgement that the face number i is left out.
   abbrev leaves : Judgement
-  leaves = take G (get_or G i ff) (leave i G)
+  leaves = take (faces_of g) (get_or (faces_of g) i ff) (leave i (faces_of g))
+
+  left-are : Are (leave i (faces_of g)) d.count d.faces.now
+  left-are = subst (λ (D : List Face). Are D d.count d.faces.now) w.others d.sound
 
   take-limited : Limited leaves
-  take-limited = ((w.whole.few, w.whole.low), ((w.out.few, w.out.low), ((left-are.few, left-are.low), tt)))
+  take-limited = ((g.sound.few, g.sound.low), ((w.out.few, w.out.low), ((left-are.few, left-are.low), tt)))
 
-  take-bytes : {c e : List ℕ} → c ≡ little_endian 2 n → e ≡ little_endian 2 (n - 1) → operand_bytes leaves ≡ c ++ (g ++ (x ++ (e ++ d)))
-  take-bytes {c} {e} p q = ap₂ (λ (y z : List ℕ). y ++ z) (field w.whole p) (ap₂ (λ (y z : List ℕ). y ++ z) (sym w.out.bytes) (field left-are q)) ∙ append_assoc c g (x ++ (e ++ d))
+  take-bytes : {c e : List ℕ} → c ≡ little_endian 2 g.count → e ≡ little_endian 2 d.count → operand_bytes leaves ≡ c ++ (g.faces.now ++ (x ++ (e ++ d.faces.now)))
+  take-bytes {c} {e} p q = ap₂ (λ (y z : List ℕ). y ++ z) (field g.sound p) (ap₂ (λ (y z : List ℕ). y ++ z) (sym w.out.bytes) (field left-are q)) ∙ append_assoc c g.faces.now (x ++ (e ++ d.faces.now))
 
-  pub take_short : {c e : List ℕ} → c ≡ little_endian 2 n → e ≡ little_endian 2 (n - 1) → length c + length g + length x + length e + length d ≤ 4096
-  take_short p q = omega (arith, ap length p, ap length q, context-short w.whole, is-short w.out, context-short left-are)
+  pub take_short : {c e : List ℕ} → c ≡ little_endian 2 g.count → e ≡ little_endian 2 d.count → length (c ++ (g.faces.now ++ (x ++ (e ++ d.faces.now)))) ≤ 4096
+  take_short {c} {e} p q =
+      omega (
+        arith,
+        ap length p,
+        ap length q,
+        context-short g.sound,
+        is-short w.out,
+        context-short d.sound,
+        length-append c (g.faces.now ++ (x ++ (e ++ d.faces.now))),
+        length-append g.faces.now (x ++ (e ++ d.faces.now)),
+        length-append x (e ++ d.faces.now),
+        length-append e d.faces.now,
+      )
 
 -- The program that leaves out the face number i.
 abbrev pub leaving : ℕ → List Face → Program
@@ -97,48 +114,43 @@ leave-up (suc i) f H z =
     let e : i ≡ suc i - 1 = omega arith in
     (ap (λ (k : ℕ). get_or H k ff) e, ap (λ (k : ℕ). f ∷ leave k H) e)
 
-module _ {G : List Face} {i n : ℕ} {x g d : List ℕ} (w : LeftOut G i x n g d) where
-  pub take-here : {l l' : Book} {c e : List ℕ} {r : Ran} → i ≡ 0 → c ≡ little_endian 2 n → e ≡ little_endian 2 (n - 1) → Emits l 19 (0 ∷ 0 ∷ 0 ∷ []) (c ++ (g ++ (x ++ (e ++ d)))) r l' → Runs l (leaving i G) r l'
+module _ (g d : Context) {i : ℕ} {x : List ℕ} (w : LeftOut (faces_of g) i x (faces_of d)) where
+  pub take-here : {l l' : Book} {c e : List ℕ} {r : Ran} → i ≡ 0 → c ≡ little_endian 2 g.count → e ≡ little_endian 2 d.count → Emits l 19 (0 ∷ 0 ∷ 0 ∷ []) (c ++ (g.faces.now ++ (x ++ (e ++ d.faces.now)))) r l' → Runs l (leaving i (faces_of g)) r l'
   take-here {l} {l'} {r} z p q t =
-      subst (λ (y : Program). Runs l y r l') (sym (leaving-first i G (inside w) z)) (emits-by t (first-rule i G (inside w) z) [] refl tt (take-limited w) refl (take-bytes w p q))
+      subst (λ (y : Program). Runs l y r l') (sym (leaving-first i (faces_of g) w.inside z)) (emits-by t (first-rule i (faces_of g) w.inside z) [] refl tt (take-limited g d w) refl (take-bytes g d w p q))
+
+  -- There is a face in front, and behind it one that is left.
+  pub take-some : (i ≡ 0 → ⊥) → (faces_of g ≡ [] → ⊥) × (faces_of d ≡ [] → ⊥)
+  take-some z = (λ e. omega (arith, w.inside, ap length e), λ e. two i (faces_of g) z w.inside (ap length (sym w.others ∙ e)))
+    where
+      two : (i : ℕ) (G : List Face) → (i ≡ 0 → ⊥) → i < length G → length (leave i G) ≡ 0 → ⊥
+      two i G z b e = omega (arith, (less i G b).count)
 
   -- Without the first face, whose bytes are h.
-  module _ {h : List ℕ} (z : i ≡ 0 → ⊥) (p : h ≡ part_at Faces g 0) where
-    first : First G n g h
-    first = first_of G n g h w.whole (λ e. omega (arith, w.inside)) p
+  module _ {h k : List ℕ} {g' d' : Context} (z : i ≡ 0 → ⊥) (v : First g h g') (u : First d k d') where
+    others : faces_of d' ≡ leave (i - 1) (faces_of g')
+    others = tail-eq_of_cons-eq (sym u.whole ∙ w.others ∙ ap (leave i) v.whole ∙ (leave-up i v.first (faces_of g') z).1)
 
-    front : d ≡ h ++ faces_bytes (leave (i - 1) first.rest)
-    unfolding faces_bytes
-    front =
-        w.others ∙ ap faces_bytes (ap (leave i) first.whole ∙ (leave-up i first.first first.rest z).1)
-        ∙ ap (λ (m : List ℕ). m ++ faces_bytes (leave (i - 1) first.rest)) (sym first.face.bytes)
-
-    pub rest-cut : (length h ≤ length g) × (length h ≤ length d)
-    rest-cut = (first.inside, omega (arith, ap length front, length-append h (faces_bytes (leave (i - 1) first.rest))))
-
-    rest-leaves : LeftOut first.rest (i - 1) x (n - 1) (tail (length h) g) (tail (length h) d)
-    rest-leaves = record {
-      whole = first.others;
-      inside = omega (arith, w.inside);
-      out = subst (λ (f : Face). Is Faces f x) (ap (λ (K : List Face). get_or K i ff) first.whole ∙ (leave-up i first.first first.rest z).0) w.out;
-      others = tail-append h (faces_bytes (leave (i - 1) first.rest)) d front;
+    pub rest-left : LeftOut (faces_of g') (i - 1) x (faces_of d')
+    rest-left = record {
+      inside = omega (arith, w.inside, ap length v.whole);
+      out = subst (λ (f : Face). Is Faces f x) (ap (λ (K : List Face). get_or K i ff) v.whole ∙ (leave-up i v.first (faces_of g') z).0) w.out;
+      others = others;
     }
 
-    pub rest-without : LeftOut (context_of (n - 1) (tail (length h) g)) (i - 1) x (n - 1) (tail (length h) g) (tail (length h) d)
-    rest-without = subst (λ (K : List Face). LeftOut K (i - 1) x (n - 1) (tail (length h) g) (tail (length h) d)) (sym (context-of first.others)) rest-leaves
-
-    module _ {l l₁ : Book} {r : Ran} (s : Runs l (leaving (i - 1) (context_of (n - 1) (tail (length h) g))) r l₁) where
-      program : leaving i G ≡ (leaving (i - 1) (context_of (n - 1) (tail (length h) g)) >>= after 20 (take G (get_or G i ff) (leave i G)))
+    module _ {l l₁ : Book} {r : Ran} (s : Runs l (leaving (i - 1) (faces_of g')) r l₁) where
+      program : leaving i (faces_of g) ≡ (leaving (i - 1) (faces_of g') >>= after 20 (take (faces_of g) (get_or (faces_of g) i ff) (leave i (faces_of g))))
       program =
-          let v = first in
-          let b : i < suc (length v.rest) = omega (arith, inside w, ap length v.whole) in
-          ap (leaving i) v.whole ∙ leaving-up i v.first v.rest b z
-          ∙ ap₂ (λ (K I : List Face). leaving (i - 1) K >>= after 20 (take I (get_or I i ff) (leave i I))) (sym (context-of v.others)) (sym v.whole)
+          let b : i < suc (length (faces_of g')) = omega (arith, w.inside, ap length v.whole) in
+          ap (leaving i) v.whole ∙ leaving-up i v.first (faces_of g') b z
+          ∙ ap (λ (I : List Face). leaving (i - 1) (faces_of g') >>= after 20 (take I (get_or I i ff) (leave i I))) (sym v.whole)
 
-      pub take-stop : done_by r ≡ false → Runs l (leaving i G) r l₁
+      pub take-stop : done_by r ≡ false → Runs l (leaving i (faces_of g)) r l₁
       take-stop e = after_stop program s e
 
-      pub take-up : {l₂ : Book} {c e : List ℕ} {t : Ran} {k : ℕ} → done_by r ≡ true → k ≡ step_by r → c ≡ little_endian 2 n → e ≡ little_endian 2 (n - 1) → Emits l₁ 20 (k ∷ 0 ∷ 0 ∷ []) (c ++ (g ++ (x ++ (e ++ d)))) t l₂ → Runs l (leaving i G) t l₂
-      take-up u j o q m =
-          let v = first in
-          after-up program s u j (subst (λ (I : List Face). Rules.Rule 20 (take v.rest (get_or v.rest (i - 1) ff) (leave (i - 1) v.rest) ∷ []) (take I (get_or I i ff) (leave i I))) (sym v.whole) (up_rule i v.first v.rest z)) (take-limited w) (take-bytes w o q) m
+      pub take-up : {l₂ : Book} {c e : List ℕ} {t : Ran} {m : ℕ} → done_by r ≡ true → m ≡ step_by r → c ≡ little_endian 2 g.count → e ≡ little_endian 2 d.count
+          → Emits l₁ 20 (m ∷ 0 ∷ 0 ∷ []) (c ++ (g.faces.now ++ (x ++ (e ++ d.faces.now)))) t l₂ → Runs l (leaving i (faces_of g)) t l₂
+      take-up f j o q n =
+          after-up program s f j
+          (subst (λ (I : List Face). Rules.Rule 20 (take (faces_of g') (get_or (faces_of g') (i - 1) ff) (leave (i - 1) (faces_of g')) ∷ []) (take I (get_or I i ff) (leave i I))) (sym v.whole) (up_rule i v.first (faces_of g') z))
+          (take-limited g d w) (take-bytes g d w o q) n

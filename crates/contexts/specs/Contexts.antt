@@ -25,22 +25,18 @@ unfoldable pub context_of : ℕ → List ℕ → List Face
 context_of n l = faces_in (read_faces n l)
 
 -- The count and the bytes are a context that keeps the limits.
-abbrev pub Context : ℕ → List ℕ → Type 0
-Context n l = Are (context_of n l) n l
+abbrev pub Sound : ℕ → List ℕ → Type 0
+Sound n l = Are (context_of n l) n l
 
 -- G without its face number i.
 abbrev pub leave : ℕ → List Face → List Face
 leave i G = take i G ++ drop (suc i) G
 
--- The bytes x are the face number i of the context G, and d are those of the others.
-pub record LeftOut (G : List Face) (i : ℕ) (x : List ℕ) (n : ℕ) (g d : List ℕ) : Type 0 where
-  pub whole : Are G n g
-  pub inside : i < n
+-- The bytes x are the face number i of G, and D are the others.
+pub record LeftOut (G : List Face) (i : ℕ) (x : List ℕ) (D : List Face) : Type 0 where
+  pub inside : i < length G
   pub out : Is Faces (get_or G i ff) x
-  pub others : d ≡ faces_bytes (leave i G)
-
-abbrev pub Without : ℕ → List ℕ → ℕ → List ℕ → List ℕ → Type 0
-Without i x n g d = LeftOut (context_of n g) i x n g d
+  pub others : D ≡ leave i G
 
 -- The bytes without those from `at` up to `end`.
 abbrev pub cut : ℕ → ℕ → List ℕ → List ℕ

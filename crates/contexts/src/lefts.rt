@@ -3,24 +3,24 @@ ghost use Rattle.std.specs.Prelude.{◌≡◌, ◌++◌, ◌+◌, ◌≤◌, suc
 ghost use Rattle.formula.specs.Formula.{ff};
 ghost use Rattle.calculus.specs.Record.{faces_bytes};
 ghost use Rattle.calculus.specs.Calls.{emit_take};
-ghost use Rattle.index.specs.Index.{Indexed};
-ghost use Rattle.steps.specs.Running.{book, Runs};
-ghost use Rattle.contexts.specs.Contexts.{context_of, Context, cut, At};
+ghost use Rattle.steps.specs.Producing.{RunsFor};
+ghost use Rattle.contexts.specs.Contexts.{cut, At};
+ghost use Rattle.contexts.specs.Faces.{faces_of};
 
-use crate::takes;
-use formula::Sort;
-use steps::Ran;
+use crate::{Context, takes};
+use steps::{Producer, Ran};
 
 // Where the face number i of the context begins.
-pub fn offset(i: usize, n: usize, g: &[u8]) -> usize
-    requires { (i ≤ n) × Context n g.now }
-    ensures { result ≡ length (faces_bytes (take i (context_of n g.now))) }
+pub fn offset(i: usize, g: Context) -> usize
+    ensures { result ≡ length (faces_bytes (take i (faces_of g.entry))) }
 {
     if i == 0 {
         return 0;
     }
-    let h = formula::formula_at(Sort::Faces, g, 0).len();
-    h + offset(i - 1, n - 1, &g[h..])
+    match g.split_first() {
+        Some((h, others)) => h.len() + offset(i - 1, others),
+        None => 0,
+    }
 }
 
 // Writes front, and behind it g without its bytes from `at` up to `end`; answers how many bytes that are.
@@ -37,19 +37,15 @@ pub fn leave(front: &[u8], g: &[u8], at: usize, end: usize, out: &mut [u8]) -> u
 }
 
 // The step that leaves the face number i, whose bytes x begin at `at`, out of the context.
-pub fn left_out(
-    l: &mut [u8],
-    ix: &mut [u32],
-    i: usize,
-    x: &[u8],
-    at: usize,
-    n: usize,
-    g: &[u8],
-) -> Ran
-    requires { Indexed l.old ix.old × At (context_of n g.now) i x.now at n g.now }
-    ensures { Runs (book l.old ix.old) (emit_take (take i (context_of n g.now)) (get_or (context_of n g.now) i ff) (drop (suc i) (context_of n g.now))) result (book l.new ix.new) }
+pub fn left_out(p: &mut Producer, i: usize, x: &[u8], at: usize, g: Context) -> Ran
+    requires { At (faces_of g) i x.now at g.count g.faces.now }
+    ensures { RunsFor p.old (emit_take (take i (faces_of g.entry)) (get_or (faces_of g.entry) i ff) (drop (suc i) (faces_of g.entry))) result p.new }
 {
     let mut made = [0u8; 1024];
-    let m = leave(&x[..0], g, at, at + x.len(), &mut made);
-    takes::take(l, ix, i, x, n, g, &made[..m])
+    let m = leave(&[], g.faces, at, at + x.len(), &mut made);
+    let others = Context {
+        count: g.count - 1,
+        faces: &made[..m],
+    };
+    takes::take(p, i, x, g, others)
 }

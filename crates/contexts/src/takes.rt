@@ -2,46 +2,42 @@
 ghost use Rattle.std.specs.Prelude.{suc, get_or, drop, take};
 ghost use Rattle.formula.specs.Formula.{ff};
 ghost use Rattle.calculus.specs.Calls.{emit_take};
-ghost use Rattle.index.specs.Index.{Indexed};
-ghost use Rattle.steps.specs.Running.{book, Runs};
-ghost use Rattle.contexts.specs.Contexts.{context_of, Without};
+ghost use Rattle.steps.specs.Producing.{RunsFor};
+ghost use Rattle.contexts.specs.Contexts.{LeftOut};
+ghost use Rattle.contexts.specs.Faces.{faces_of};
 
-use crate::contexts;
-use formula::Sort;
-use steps::Ran;
+use crate::Context;
+use steps::{Producer, Ran};
 
-// The step that leaves x, the face number i of the context, out of it; d are the bytes of the other faces.
-pub fn take(l: &mut [u8], ix: &mut [u32], i: usize, x: &[u8], n: usize, g: &[u8], d: &[u8]) -> Ran
-    requires { Indexed l.old ix.old × Without i x.now n g.now d.now }
-    ensures { Runs (book l.old ix.old) (emit_take (take i (context_of n g.now)) (get_or (context_of n g.now) i ff) (drop (suc i) (context_of n g.now))) result (book l.new ix.new) }
+// The kinds of the rules take.here and take.there.
+const HERE: usize = 19;
+
+const THERE: usize = 20;
+
+// The step that leaves x, the face number i of the context, out of it; d has the other faces.
+pub fn take<'a>(p: &mut Producer, i: usize, x: &[u8], g: Context<'a>, d: Context<'a>) -> Ran
+    requires { LeftOut (faces_of g) i x.now (faces_of d) }
+    ensures { RunsFor p.old (emit_take (take i (faces_of g.entry)) (get_or (faces_of g.entry) i ff) (drop (suc i) (faces_of g.entry))) result p.new }
 {
+    let before = g.count_field();
+    let after = d.count_field();
     if i == 0 {
         return steps::emit(
-            l,
-            ix,
-            19,
-            [0, 0, 0],
-            &contexts::count(n),
-            g,
-            x,
-            &contexts::count(n - 1),
-            d,
+            p.ledger,
+            p.index,
+            HERE,
+            [0; 3],
+            &[&before, g.faces, x, &after, d.faces],
         );
     }
-    let h = formula::formula_at(Sort::Faces, g, 0).len();
-    let r = take(l, ix, i - 1, x, n - 1, &g[h..], &d[h..]);
-    if !steps::is_done(r) {
-        return r;
-    }
+    let (_, g_rest) = g.split_first().unwrap();
+    let (_, d_rest) = d.split_first().unwrap();
+    let r = take(p, i - 1, x, g_rest, d_rest)?;
     steps::emit(
-        l,
-        ix,
-        20,
-        [steps::step_of(r), 0, 0],
-        &contexts::count(n),
-        g,
-        x,
-        &contexts::count(n - 1),
-        d,
+        p.ledger,
+        p.index,
+        THERE,
+        [r, 0, 0],
+        &[&before, g.faces, x, &after, d.faces],
     )
 }

@@ -1,1 +1,1 @@
-pub mod RowTable
+pub mod RowLaws

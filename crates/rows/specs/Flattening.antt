@@ -1,12 +1,16 @@
 -- Definitions that only the contracts of private functions cite; no public contract rests on them.
 -- Here: the rows of the calculus as items.
-use Rattle.std.specs.Prelude.{◌≡◌, List, [], ◌∷◌, ◌++◌, map, ℕ, suc, ◌+◌, ◌-◌, ◌*◌, ◌/◌, ◌%◌, ◌<◌, length, get_or, replicate}
+use Rattle.std.specs.Prelude.{List, [], ◌∷◌, ◌++◌, map, ℕ, suc, ◌+◌, ◌-◌, ◌*◌, length, get_or, replicate, take, drop}
 use Rattle.formula.specs.Formula.{lo, hi, ff, i0}
 use Rattle.formula.specs.Bytes.{dim_bytes}
 use Rattle.calculus.specs.Table.{predicate}
-use Rattle.calculus.proofs.Rows.{NumP, nz, nv, ns, FaceP, fv, Ff, Ft, At, And, Or, IntP, iv, I0, I1, Dim, Neg, Meet, Join, CtxP, cv, Nil, ◌◂◌, JudP, Lt, Le, Int, Fac, Mem, Tak, Cov, Ent, Bnd, Loc, All, Ish, Isu, Fsh, Fsu, Row, conclusion, premises, rows, Env, inst}
+use Rattle.calculus.proofs.Rows.{NumP, nz, nv, ns, FaceP, fv, Ff, Ft, At, And, Or, IntP, iv, I0, I1, Dim, Neg, Meet, Join, CtxP, cv, Nil, ◌◂◌, JudP, Lt, Le, Int, Fac, Mem, Tak, Cov, Ent, Bnd, Loc, All, Ish, Isu, Fsh, Fsu, Row, conclusion, premises, Env, inst}
 use Rattle.kinds.specs.Kinds.{number_of}
-use Rattle.rows.specs.Items.{Token, byte, number, slot, front, done, pad, Item, claim, inside}
+use Rattle.rows.specs.declared.TheConstants.{LINES, STARTS}
+use Rattle.rows.specs.declared.Token.{Token}
+use Rattle.rows.specs.declared.Token.TheVariants.{Byte as byte, Number as number, Slot as slot, Front as front, Done as done, Pad as pad}
+use Rattle.rows.specs.declared.Item.{Item}
+use Rattle.rows.specs.declared.Item.TheVariants.{Claim as claim, Inside as inside}
 
 -- The tokens of a number: zero's bytes, a variable, one above it.
 abbrev pub flat_n : NumP → List Token
@@ -84,52 +88,22 @@ padded ts = ts ++ replicate (9 - length ts) pad
 abbrev pub line_items : JudP → List Item
 line_items p = claim (pattern_number p) ∷ map inside (padded (flat_j p))
 
--- The items of judgements, one after another.
-unfoldable pub items_of : List JudP → List Item
-items_of [] = []
-items_of (p ∷ ps) = line_items p ++ items_of ps
+-- The lines of a row, the conclusion first.
+abbrev pub lines_in : Row → List (List Item)
+lines_in r = map line_items (conclusion r ∷ premises r)
 
--- A row's items, the conclusion first.
-abbrev pub items_in : Row → List Item
-items_in r = items_of (conclusion r ∷ premises r)
+-- The elements from number a up to b.
+abbrev pub part : {A : Type 0} → List A → ℕ → ℕ → List A
+part l a b = take (b - a) (drop a l)
 
--- The items of all rows, one after another.
-unfoldable pub row_items : List Row → List Item
-row_items [] = []
-row_items (r ∷ rs) = items_in r ++ row_items rs
+-- The lines of the table in the code, and where the row of kind k + 1 begins in it.
+unfoldable pub all_lines : List (List Item)
+all_lines = LINES
 
--- Where each row starts, counted from a, and where the last ends.
-unfoldable pub row_starts : ℕ → List Row → List ℕ
-row_starts a [] = a ∷ []
-row_starts a (r ∷ rs) = a ∷ row_starts (a + length (items_in r)) rs
+unfoldable pub start_at : ℕ → ℕ
+start_at k = get_or STARTS k 0
 
--- The byte of an item.
-abbrev pub byte_of : Item → ℕ
-byte_of (claim p) = 96 + p
-byte_of (inside (byte b)) = b
-byte_of (inside (number k v)) = 32 + 8 * k + v
-byte_of (inside (slot u)) = 48 + u
-byte_of (inside (front k)) = 72 + k
-byte_of (inside done) = 80
-byte_of (inside pad) = 81
-
--- The bytes of a judgement's line.
-abbrev pub line_of : JudP → List ℕ
-line_of p = map byte_of (line_items p)
-
--- The lines of all rows, one after another.
-unfoldable pub row_lines : List Row → List (List ℕ)
-row_lines [] = []
-row_lines (r ∷ rs) = map line_of (conclusion r ∷ premises r) ++ row_lines rs
-
--- Line i of the rules.
-unfoldable pub line_at : ℕ → List ℕ
-line_at i = get_or (row_lines rows) i []
-
--- The bytes of all lines, one after another.
-abbrev pub Tabled : List ℕ → Type 0
-Tabled t = (i : ℕ) → i < 1540 → get_or t i 0 ≡ get_or (line_at (i / 10)) (i % 10) 0
-
--- The line holds byte i of the rows, unless that begins a line.
-abbrev pub Inside : List ℕ → ℕ → Type 0
-Inside line i = (i % 10 ≡ 0 → ⊥) → line ≡ line_at (i / 10)
+-- Lines one after another.
+unfoldable pub joined : List (List Item) → List Item
+joined [] = []
+joined (r ∷ rs) = r ++ joined rs

@@ -1,24 +1,28 @@
 -- A rule's row as tokens, for private contracts; no public contract rests on them.
-use Rattle.std.specs.Prelude.{ℕ, ◌-◌, ltb}
-use Rattle.formula.specs.Answers.{pick}
+use Rattle.std.specs.Prelude.{List, ℕ, ◌<◌, length, get_or}
+use Rattle.rows.specs.declared.Token.{Token}
+use Rattle.rows.specs.declared.Token.TheVariants.{Byte as byte, Number as number, Slot as slot, Front as front, Done as done, Pad as pad}
+use Rattle.rows.specs.declared.Item.{Item}
+use Rattle.rows.specs.declared.Item.TheVariants.{Claim as claim, Inside as inside}
 
--- A token: a byte, a number so much above a variable, the bytes in a slot, a context's count with so many faces in front of a variable, no faces left, nothing.
-pub data Token : Type 0 where
-  byte : ℕ → Token
-  number : ℕ → ℕ → Token
-  slot front : ℕ → Token
-  done pad : Token
+-- The token's variable is one of the 24 slots of bytes, or of the 8 numbers.
+abbrev pub Fit : Token → Type 0
+Fit (byte b) = Unit {0}
+Fit (number k v) = v < 8
+Fit (slot u) = u < 24
+Fit (front k) = Unit {0}
+Fit done = Unit {0}
+Fit pad = Unit {0}
 
--- What a row is made of: the predicate of the next judgement, and tokens inside one.
-pub data Item : Type 0 where
-  claim : ℕ → Item
-  inside : Token → Item
+-- The same for an item.
+abbrev pub FitItem : Item → Type 0
+FitItem (claim p) = Unit {0}
+FitItem (inside t) = Fit t
 
--- The token that a byte of a row below 96 stands for.
-abbrev pub token : ℕ → Token
-token b =
-    pick (ltb b 32) (byte b) (pick (ltb b 40) (number 0 (b - 32)) (pick (ltb b 48) (number 1 (b - 40)) (pick (ltb b 72) (slot (b - 48)) (pick (ltb b 80) (front (b - 72)) (pick (ltb b 81) done pad)))))
+-- The same for all items of a line.
+abbrev pub AllFit : List Item → Type 0
+AllFit is = (i : ℕ) (d : Item) → i < length is → FitItem (get_or is i d)
 
--- What a byte of a row stands for.
-unfoldable pub item : ℕ → Item
-item b = pick (ltb b 96) (inside (token b)) (claim (b - 96))
+-- The same for all lines of a row.
+abbrev pub RowFits : List (List Item) → Type 0
+RowFits ls = (i : ℕ) (d : List Item) → i < length ls → AllFit (get_or ls i d)

@@ -5,7 +5,7 @@ use mathlib.Core.List.{List, [], ◌∷◌, ◌++◌, map, append_assoc, append-
 use Prim.Native.Nat.{ℕ, zero, suc, ◌+◌, ◌*◌, ◌-◌, ◌/◌, ◌%◌, ◌≤◌, ◌<◌}
 use native.Mathlib.Omega.{arith}
 use borrow.Author.Tests.{leb-true}
-use lib.ListN.{length, get_or, replicate, length-append}
+use lib.ListN.{length, replicate, length-append}
 use Rattle.formula.specs.declared.Sort.TheVariants.{Faces as faces, Intervals as intervals}
 use Rattle.formula.specs.Formula.{lo, hi, Face}
 use Rattle.formula.specs.Bytes.{dim_bytes, encode_face, encode_interval, Got, got, then}
@@ -19,16 +19,18 @@ use Rattle.calculus.specs.Record.{little_endian, Field, Value, Values, faces_byt
 use Rattle.calculus.specs.Parse.{read_faces, read_field, judgement_of}
 use Rattle.calculus.proofs.Tables.{rule-listed, listed-range}
 use Rattle.calculus.proofs.Fields.{read-little, read-faces, faces-nodes, values-front, rebuilt}
-use Rattle.calculus.proofs.Rows.{NumP, nz, nv, ns, FaceP, fv, Ff, Ft, At, And, Or, IntP, iv, I0, I1, Dim, Neg, Meet, Join, CtxP, cv, Nil, ◌◂◌, JudP, Lt, Le, Int, Fac, Mem, Tak, Cov, Ent, Bnd, Loc, All, Ish, Isu, Fsh, Fsu, Env, inst_n, inst_f, inst_i, inst_c, inst, conclusion, premises, rows, row_at, Instance, instance-rule, rule-instance}
+use Rattle.calculus.proofs.Rows.{NumP, nz, nv, ns, FaceP, fv, Ff, Ft, At, And, Or, IntP, iv, I0, I1, Dim, Neg, Meet, Join, CtxP, cv, Nil, ◌◂◌, JudP, Lt, Le, Int, Fac, Mem, Tak, Cov, Ent, Bnd, Loc, All, Ish, Isu, Fsh, Fsu, Env, inst_n, inst_f, inst_i, inst_c, inst, conclusion, premises, row_at, Instance, instance-rule, rule-instance}
 use Rattle.kinds.specs.Kinds.{number_of, predicate_of}
 use Rattle.kinds.proofs.KindLaws.{numbered}
-use Rattle.rules.specs.Standing.{part, AllStand, Decides, Ruled}
-use Rattle.rows.specs.Items.{Token, byte, number, slot, front, done, pad, Item, claim, inside}
-use Rattle.rules.specs.Matching.{bytes_of, Thing, a-face, an-interval, some-faces, Consumes, Claim, claimed, Fits, over, turn, claims, Matched}
-use Rattle.rows.specs.Flattening.{flat_n, flat_f, flat_i, fronts, flat_faces, flat_c, flat_j, padded, pattern_number, items_of, items_in, row_items, row_starts}
+use Rattle.rules.specs.declared.Claim.{Claim}
+use Rattle.rules.specs.Standing.{AllStand, Decides, Ruled}
+use Rattle.rows.specs.declared.Token.{Token}
+use Rattle.rows.specs.declared.Token.TheVariants.{Byte as byte, Number as number, Slot as slot, Front as front, Done as done, Pad as pad}
+use Rattle.rows.specs.declared.Item.{Item}
+use Rattle.rows.specs.declared.Item.TheVariants.{Claim as claim, Inside as inside}
+use Rattle.rules.specs.Matching.{bytes_of, Thing, a-face, an-interval, some-faces, Consumes, Spoken, claimed, Fits, over, turn, spoken, Matched}
+use Rattle.rows.specs.Flattening.{flat_n, flat_f, flat_i, fronts, flat_faces, flat_c, flat_j, padded, pattern_number, line_items, lines_in, joined}
 use Rattle.rules.proofs.Moving.{bytes-face, bytes-interval, bytes-context, thing-faces}
-use Rattle.rows.proofs.RowTable.{table-length}
-use Rattle.rules.proofs.RowCuts.{Cut, row_cut}
 
 -- Tokens one after another ----------------------------------------------------------------------------
 
@@ -274,25 +276,25 @@ module _ (E : Env) where
   pattern_number-inst (Fsh f k o) = refl
   pattern_number-inst (Fsu f k s o) = refl
 
-abbrev claim_of : Judgement → Claim
-claim_of j = claimed (number_of (predicate j)) (operand_bytes j)
+abbrev spoken_of : Judgement → Spoken
+spoken_of j = claimed (number_of (predicate j)) (operand_bytes j)
 
 abbrev AllShort : List Judgement → Type 0
 AllShort [] = Unit {0}
 AllShort (j ∷ js) = Short j × AllShort js
 
 module _ (E : Env) where
-  fits-split : {is : List Item} (ts : List Token) {n : ℕ} {s : List ℕ} {cs : List Claim} → Fits E (map inside ts ++ is) n s cs → (k : ℕ) × (r : List ℕ) × Run E ts n s k r × Fits E is k r cs
+  fits-split : {is : List Item} (ts : List Token) {n : ℕ} {s : List ℕ} {cs : List Spoken} → Fits E (map inside ts ++ is) n s cs → (k : ℕ) × (r : List ℕ) × Run E ts n s k r × Fits E is k r cs
   fits-split [] {n} {s} f = (n, s, stay refl refl, f)
-  fits-split {is} (t ∷ ts) (turn {n' = n} {s' = s} a f) = let c = fits-split ts (subst (λ (ds : List Claim). Fits E (map inside ts ++ is) n s ds) a.1 f) in (c.0, c.1, step a.0 c.2, c.3)
+  fits-split {is} (t ∷ ts) (turn {n' = n} {s' = s} a f) = let c = fits-split ts (subst (λ (ds : List Spoken). Fits E (map inside ts ++ is) n s ds) a.1 f) in (c.0, c.1, step a.0 c.2, c.3)
 
-  fits-join : {is : List Item} {ts : List Token} {n k : ℕ} {s r : List ℕ} {cs : List Claim} → Run E ts n s k r → Fits E is k r cs → Fits E (map inside ts ++ is) n s cs
+  fits-join : {is : List Item} {ts : List Token} {n k : ℕ} {s r : List ℕ} {cs : List Spoken} → Run E ts n s k r → Fits E is k r cs → Fits E (map inside ts ++ is) n s cs
   fits-join (stay p q) f = rw (← p, q) f
   fits-join {cs = cs} (step {t = t} {k = k} {r = r} a b) f = turn {i = inside t} {n' = k} {s' = r} {cs' = cs} (a, refl) (fits-join b f)
 
   -- Items that fit are the instances' claims.
-  fits-claims : (ps : List JudP) {n : ℕ} {s : List ℕ} {cs : List Claim} → Fits E (items_of ps) n s cs → (s ≡ []) × (cs ≡ map claim_of (map (inst E) ps)) × AllShort (map (inst E) ps)
-  unfolding items_of
+  fits-claims : (ps : List JudP) {n : ℕ} {s : List ℕ} {cs : List Spoken} → Fits E (joined (map line_items ps)) n s cs → (s ≡ []) × (cs ≡ map spoken_of (map (inst E) ps)) × AllShort (map (inst E) ps)
+  unfolding joined
   fits-claims [] (over e c) = (e, c, tt)
   fits-claims (p ∷ ps) (turn {n' = n} {s' = s} {cs' = cs} a f) =
       let c = fits-split (padded (flat_j p)) f in
@@ -301,12 +303,12 @@ module _ (E : Env) where
       let e : s ≡ operand_bytes (inst E p) = b.0 ∙ ap (λ (z : List ℕ). operand_bytes (inst E p) ++ z) h.0 ∙ append-nil (operand_bytes (inst E p)) in
       (a.0, a.2 ∙ ap₂ ◌∷◌ (ap₂ claimed (pattern_number-inst E p) e) h.1, (b.1, h.2))
 
-  claims-fit : (ps : List JudP) (n : ℕ) → AllShort (map (inst E) ps) → Fits E (items_of ps) n [] (map claim_of (map (inst E) ps))
-  unfolding items_of
+  claims-fit : (ps : List JudP) (n : ℕ) → AllShort (map (inst E) ps) → Fits E (joined (map line_items ps)) n [] (map spoken_of (map (inst E) ps))
+  unfolding joined
   claims-fit [] n h = over refl refl
   claims-fit (p ∷ ps) n h =
       let r = (spells_line E p).forth h.0 0 [] in
-      turn {i = claim (pattern_number p)} {n' = 0} {s' = operand_bytes (inst E p)} {cs' = map claim_of (map (inst E) ps)} (refl, refl, ap (λ (k : ℕ). claimed k (operand_bytes (inst E p)) ∷ map claim_of (map (inst E) ps)) (sym (pattern_number-inst E p)))
+      turn {i = claim (pattern_number p)} {n' = 0} {s' = operand_bytes (inst E p)} {cs' = map spoken_of (map (inst E) ps)} (refl, refl, ap (λ (k : ℕ). claimed k (operand_bytes (inst E p)) ∷ map spoken_of (map (inst E) ps)) (sym (pattern_number-inst E p)))
       (fits-join (subst (λ (z : List ℕ). Run E (padded (flat_j p)) 0 z r.0 []) (append-nil (operand_bytes (inst E p))) r.1) (claims-fit ps r.0 h.1))
 
 -- Claims tell judgements apart --------------------------------------------------------------------------------
@@ -333,14 +335,14 @@ read_short (c ∷ cs) xs m h =
     let p = short-front c cs xs h in
     rw (values-front c cs xs m, short-field c xs.0 (values_bytes cs xs.1 ++ m) p.0, read_short cs xs.1 m p.1)
 
-read_claim : Claim → Got Judgement
+read_claim : Spoken → Got Judgement
 read_claim (claimed p l) = then (read_bare (fields (predicate_of p)) (l ++ [])) (λ xs. got (judgement_of (predicate_of p) xs))
 
-read-claim : (j : Judgement) → Short j → read_claim (claim_of j) ≡ got j []
+read-claim : (j : Judgement) → Short j → read_claim (spoken_of j) ≡ got j []
 unfolding read_claim
 read-claim j h = rw ((numbered (predicate j)).0, read_short (fields (predicate j)) (operands j) [] h, rebuilt j)
 
-claims-injective : (js ks : List Judgement) → AllShort js → AllShort ks → map claim_of js ≡ map claim_of ks → js ≡ ks
+claims-injective : (js ks : List Judgement) → AllShort js → AllShort ks → map spoken_of js ≡ map spoken_of ks → js ≡ ks
 claims-injective [] [] h i e = refl
 claims-injective [] (k ∷ ks) h i e = cc
 claims-injective (j ∷ js) [] h i e = cc
@@ -361,30 +363,35 @@ all_short [] xs h = tt
 all_short (c ∷ []) xs h = allowed-short c xs.0 ((and-eq-true_iff (allowed c xs.0) true).0 h).0
 all_short (c ∷ (e ∷ cs)) xs h = let p = (and-eq-true_iff (allowed c xs.0) (all_allowed (e ∷ cs) xs.1)).0 h in (allowed-short c xs.0 p.0, all_short (e ∷ cs) xs.1 p.1)
 
-module _ (l preds from to : List ℕ) where
-  stand-claims : (i : ℕ) (js : List Judgement) → AllStand l preds from to i js → (claims l preds from to (length js) i ≡ map claim_of js) × AllShort js
-  unfolding claims
-  stand-claims i [] h = (refl, tt)
-  stand-claims i (j ∷ js) h =
-      let r = stand-claims (suc i) js h.1 in
+module _ (l : List ℕ) where
+  stand-spoken : (cs : List Claim) (js : List Judgement) → AllStand l cs js → (spoken l cs ≡ map spoken_of js) × AllShort js
+  stand-spoken [] [] h = (refl, tt)
+  stand-spoken [] (j ∷ js) h = absurd h
+  stand-spoken (c ∷ cs) [] h = absurd h
+  stand-spoken (c ∷ cs) (j ∷ js) h =
+      let r = stand-spoken cs js h.1 in
       (ap₂ ◌∷◌ (ap₂ claimed h.0.named h.0.bytes) r.0, (all_short (fields (predicate j)) (operands j) h.0.limits, r.1))
 
   -- A row that matches is the rule, and only then.
-  pub row-judged : (k n : ℕ) (r : Bool) → k < 75 → Decides r (Matched (items_in (row_at k)) (claims l preds from to (n + 1) 0)) → Ruled l (suc k) preds from to n r
-  row-judged k n true b d j js e h =
-      let s = stand-claims 0 (j ∷ js) h in
-      let i : n + 1 ≡ suc (length js) = omega arith in
+  row-judged : (k : ℕ) (cs : List Claim) (r : Bool) → k < 75 → Decides r (Matched (joined (lines_in (row_at k))) (spoken l cs)) → Ruled l (suc k) cs r
+  row-judged k cs true b d j js h =
+      let s = stand-spoken cs (j ∷ js) h in
       let f = fits-claims d.0 (conclusion (row_at k) ∷ premises (row_at k)) d.1 in
-      let m = claims-injective _ (j ∷ js) f.2 s.1 (sym f.1 ∙ ap (λ (z : ℕ). claims l preds from to z 0) i ∙ s.0) in
+      let m = claims-injective _ (j ∷ js) f.2 s.1 (sym f.1 ∙ s.0) in
       instance-rule b (record { env = d.0; ends = head-eq_of_cons-eq m; refs = tail-eq_of_cons-eq m })
-  row-judged k n false b d j js e h = λ r. go (rule-instance r)
+  row-judged k cs false b d j js h = λ r. go (rule-instance r)
     where
       go : Instance k js j → ⊥
       go w =
-          let s = stand-claims 0 (j ∷ js) h in
-          let i : n + 1 ≡ suc (length js) = omega arith in
+          let s = stand-spoken cs (j ∷ js) h in
           let m : map (inst w.env) (conclusion (row_at k) ∷ premises (row_at k)) ≡ j ∷ js = ap₂ ◌∷◌ w.ends w.refs in
-          d (w.env, subst (λ (cs : List Claim). Fits w.env (items_in (row_at k)) 0 [] cs) (ap (map claim_of) m ∙ sym s.0 ∙ ap (λ (z : ℕ). claims l preds from to z 0) (sym i)) (claims-fit w.env (conclusion (row_at k) ∷ premises (row_at k)) 0 (subst AllShort (sym m) s.1)))
+          d (w.env, subst (λ (ds : List Spoken). Fits w.env (joined (lines_in (row_at k))) 0 [] ds) (ap (map spoken_of) m ∙ sym s.0) (claims-fit w.env (conclusion (row_at k) ∷ premises (row_at k)) 0 (subst AllShort (sym m) s.1)))
+
+  -- By the number of the kind.
+  pub kind-judged : (kind : ℕ) (cs : List Claim) (r : Bool) → (kind ≡ 0 → ⊥) → kind ≤ 75 → Decides r (Matched (joined (lines_in (row_at (kind - 1)))) (spoken l cs)) → Ruled l kind cs r
+  kind-judged kind cs r b h d =
+      let e : suc (kind - 1) ≡ kind = omega arith in
+      subst (λ (k : ℕ). Ruled l k cs r) e (row-judged (kind - 1) cs r (omega arith) d)
 
 -- No rule has another number.
 pub no_kind : (k : ℕ) {js : List Judgement} {j : Judgement} → (k ≡ 0) → Rule k js j → ⊥
@@ -392,18 +399,3 @@ no_kind k e r = omega (arith, (listed-range (rule-listed r)).0)
 
 pub high-kind : (k : ℕ) {js : List Judgement} {j : Judgement} → 75 < k → Rule k js j → ⊥
 high-kind k e r = omega (arith, (listed-range (rule-listed r)).1)
-
--- The row of a kind, cut from the table.
-module _ (kind start stop : ℕ) (b : (kind ≡ 0) → ⊥) (h : kind ≤ 75) (p : start ≡ get_or (row_starts 0 rows) (kind - 1) 0) (q : stop ≡ get_or (row_starts 0 rows) kind 0) where
-  kind-cut : Cut (row_items rows) start stop (row_at (kind - 1))
-  kind-cut =
-      let e : suc (kind - 1) ≡ kind = omega arith in
-      rw (p, q) (subst (λ (k : ℕ). Cut (row_items rows) (get_or (row_starts 0 rows) (kind - 1) 0) (get_or (row_starts 0 rows) k 0) (row_at (kind - 1))) e (row_cut (kind - 1) (omega arith)))
-
-  pub kind-ranges : (start ≤ stop) × (stop ≤ 1540)
-  kind-ranges = (kind-cut.ordered, omega (arith, kind-cut.within, table-length))
-
-  pub kind-judged : (l preds from to : List ℕ) (n : ℕ) (r : Bool) → Decides r (Matched (part (row_items rows) start stop) (claims l preds from to (n + 1) 0)) → Ruled l kind preds from to n r
-  kind-judged l preds from to n r d =
-      let e : suc (kind - 1) ≡ kind = omega arith in
-      subst (λ (k : ℕ). Ruled l k preds from to n r) e (row-judged l preds from to (kind - 1) n r (omega arith) (subst (λ (is : List Item). Decides r (Matched is (claims l preds from to (n + 1) 0))) kind-cut.cut d))

@@ -2,5 +2,4 @@ pub mod Parts
 pub mod Binding
 pub mod Moving
 pub mod Turning
-pub mod RowCuts
 pub mod Instances

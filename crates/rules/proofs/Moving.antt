@@ -5,29 +5,26 @@ use mathlib.Core.List.{List, [], ◌∷◌, ◌++◌, head-eq_of_cons-eq, tail-e
 use Prim.Native.Nat.{ℕ, ◌+◌, ◌*◌, ◌-◌, ◌/◌, ◌%◌, ◌≤◌, ◌<◌}
 use native.Mathlib.Omega.{arith}
 use native.Mathlib.Decide.{ℕ_discrete, dec_lt}
-use borrow.Author.Tests.{lt-ltb, le-ltb}
 use lib.ListN.{length, get_or, length-append}
 use Rattle.formula.specs.declared.Sort.{Sort}
 use Rattle.formula.specs.declared.Sort.TheVariants.{Faces as faces, Intervals as intervals}
-use Rattle.formula.specs.declared.Measured.{Measured}
-use Rattle.formula.specs.declared.Measured.TheVariants.{Formula as found, Ill}
+use Rattle.refusals.specs.declared.Refusal.{Refusal}
 use Rattle.formula.specs.declared.Size.{Size}
 use Rattle.formula.specs.Formula.{Face}
 use Rattle.formula.specs.Bytes.{Tree, dim_width, dim_bytes, dim_at, encode, encode_face, encode_interval, Got, nothing, got, read}
-use Rattle.formula.specs.Answers.{said_measured, measurement_at}
-use Rattle.formula.proofs.Measuring.{front_size, measured_at, measured_at-as}
+use Rattle.formula.specs.Answers.{size_front, measurement_at}
 use Rattle.formula.proofs.Reading.{got-value, got-rest, read-encode, encode-read, encode-prefix}
+use Rattle.std.specs.Prelude.{Option, None, Some, Result, Ok, Err}
 use Rattle.calculus.specs.Record.{little_endian, faces_bytes}
 use Rattle.calculus.specs.Parse.{read_faces}
 use Rattle.calculus.proofs.Fields.{read-faces}
 use Rattle.calculus.proofs.Rows.{Env, put, bind_n}
-use Rattle.rules.specs.Standing.{part}
-use Rattle.rows.specs.Items.{Token, byte, number, slot, front, done, pad, token}
-use Rattle.rules.specs.Matching.{bytes_of, Thing, a-face, an-interval, some-faces, Consumes, Held, num, bytes, held_in, Binds, Ends, Formula, Faces, Moves}
-use Rattle.rules.specs.declared.reach.Ending.{Ending}
-use Rattle.rules.specs.declared.reach.Ending.TheVariants.{At, Nowhere}
-use Rattle.rules.specs.declared.tokens.Next.{Next}
-use Rattle.rules.specs.declared.tokens.Next.TheVariants.{Move, Stop}
+use Rattle.rows.specs.declared.Token.{Token}
+use Rattle.rows.specs.declared.Token.TheVariants.{Byte as byte, Number as number, Slot as slot, Front as front, Done as done, Pad as pad}
+use Rattle.rows.specs.Flattening.{part}
+use Rattle.rules.specs.declared.State.{State}
+use Rattle.rules.specs.declared.slots.Bindings.{Bindings}
+use Rattle.rules.specs.Matching.{bytes_of, Thing, a-face, an-interval, some-faces, Consumes, Held, num, bytes, held_in, Binds, Ends, Formula, Faces, Moves, MovesOnly}
 use Rattle.rules.proofs.Parts.{part_none, part_join, part_length, part-cons, part-split}
 use Rattle.rules.proofs.Binding.{put_same, put_other, put_as, agrees-as, held_bytes, held_number}
 
@@ -39,19 +36,24 @@ pub record Reading (t : Token) (left : ℕ) (s : List ℕ) (u : ℕ) (x : Held) 
   pub writes : (E : Env) → held_in E u ≡ x → Consumes E t left s left s'
   pub stands : (E : Env) → (F : Env) × ((w : ℕ) → w < 32 → held_in F w ≡ put u x (held_in E) w)
 
-abbrev pub outcome : Bool → ℕ → ℕ → Next
-outcome true a h = Move a h
-outcome false a h = Stop
+-- The cursor at another place of the same judgement, with so many faces left.
+abbrev pub moved : State → ℕ → ℕ → State
+moved q a h = record { at = a; end = q.end; left = h; j = q.j }
 
-pub bound-moves : (t : Token) (at end left : ℕ) (l m m' : List ℕ) (u : ℕ) (x : Held) (a : ℕ) (r : Bool)
-    → Reading t left (part l at end) u x (part l a end) → a ≤ end → Binds l m u x r m' → Moves t at end left l m (outcome r a left) m'
-bound-moves t at end left l m m' u x a true g h b = record {
+abbrev pub outcome : Bool → State → Option State
+outcome true p = Some p
+outcome false p = None
+
+pub bound-moves : (t : Token) (q : State) (l : List ℕ) (m m' : Bindings) (u : ℕ) (x : Held) (a : ℕ) (r : Bool)
+    → Reading t q.left (part l q.at q.end) u x (part l a q.end) → a ≤ q.end → Binds l m u x r m' → Moves t q l m (outcome r (moved q a q.left)) m'
+bound-moves t q l m m' u x a true g h b = record {
+  kept = (refl, refl);
   within = h;
-  forth = λ E n s p st. let q = g.reads E n s st in (agrees-as (λ w _. put_as u x (held_in E) q.0 w) (b.0 E p), q.1, q.2);
-  back = λ E p. let q = b.1 E p in (q.0, g.writes E q.1);
-  some = λ p. let F = g.stands p.0 in (F.0, agrees-as (λ w k. sym (F.1 w k)) (b.0 p.0 p.1));
+  forth = λ E n s p st. let y = g.reads E n s st in (agrees-as (λ w _. put_as u x (held_in E) y.0 w) (b.0 E p), y.1, y.2);
+  back = λ E p. let y = b.1 E p in (y.0, g.writes E y.1);
+  possible = λ p. let F = g.stands p.0 in (F.0, agrees-as (λ w k. sym (F.1 w k)) (b.0 p.0 p.1));
 }
-bound-moves t at end left l m m' u x a false g h b = λ E n s p st. b E p (g.reads E n s st).0
+bound-moves t q l m m' u x a false g h b = λ E n s p st. b E p (g.reads E n s st).0
 
 -- An environment that differs in one slot.
 stands-as : (E F : Env) (u : ℕ) (x : Held) → held_in F u ≡ x → ((w : ℕ) → w < 32 → (w ≡ u → ⊥) → held_in F w ≡ held_in E w) → (w : ℕ) → w < 32 → held_in F w ≡ put u x (held_in E) w
@@ -99,22 +101,23 @@ module _ (k v : ℕ) (at end left : ℕ) (l : List ℕ) where
       other E w d (no p) =
           held_number (bind_n v (dim_at l at - k) E) w (omega arith) ∙ ap num (put_other v (dim_at l at - k) E.num (w - 24) (λ e. d (omega (arith, p)))) ∙ sym (held_number E w (omega arith))
 
-  module _ (b : v < 8) (h : at + dim_width ≤ end) (i : end ≤ length l) (w : ℕ) (c : w ≡ dim_width) (d : ℕ) (e : d ≡ dim_at l at) (j : k ≤ d) (m m' : List ℕ) (r : Bool) where
-    number-moves : Binds l m (v + 24) (num (d - k)) r m' → Moves (number k v) at end left l m (outcome r (at + w) left) m'
-    number-moves g = rw (c) (bound-moves (number k v) at end left l m m' (v + 24) (num (dim_at l at - k)) (at + dim_width) r (number-reading b h i (rw e at j)) h (rw e at g))
+module _ (k v : ℕ) (q : State) (l : List ℕ) where
+  module _ (b : v < 8) (h : q.at + dim_width ≤ q.end) (i : q.end ≤ length l) (d : ℕ) (e : d ≡ dim_at l q.at) (j : k ≤ d) (m m' : Bindings) (r : Bool) where
+    number-moves : Binds l m (v + 24) (num (d - k)) r m' → Moves (number k v) q l m (outcome r (moved q (q.at + dim_width) q.left)) m'
+    number-moves g = bound-moves (number k v) q l m m' (v + 24) (num (dim_at l q.at - k)) (q.at + dim_width) r (number-reading k v q.at q.end q.left l b h i (rw e at j)) h (rw e at g)
 
-    pub number-yes : r ≡ true → Binds l m (v + 24) (num (d - k)) r m' → Moves (number k v) at end left l m (Move (at + w) left) m'
-    number-yes q g = rw q at (number-moves g)
+    pub number-yes : r ≡ true → Binds l m (v + 24) (num (d - k)) r m' → Moves (number k v) q l m (Some (moved q (q.at + dim_width) q.left)) m'
+    number-yes f g = rw f at (number-moves g)
 
-    pub number-no : r ≡ false → Binds l m (v + 24) (num (d - k)) r m' → Moves (number k v) at end left l m Stop m'
-    number-no q g = rw q at (number-moves g)
+    pub number-no : r ≡ false → Binds l m (v + 24) (num (d - k)) r m' → Moves (number k v) q l m None m'
+    number-no f g = rw f at (number-moves g)
 
   -- A field that is not there, or is too low.
-  pub number-none : at ≤ end → end ≤ length l → end - at < dim_width → (m : List ℕ) → Moves (number k v) at end left l m Stop m
-  number-none o i h m = λ E n s g st. omega (arith, part_length l at end i, simp length-append at (ap length st.0))
+  pub number-none : q.at ≤ q.end → q.end ≤ length l → q.end - q.at < dim_width → (m : Bindings) → Moves (number k v) q l m None m
+  number-none o i h m = λ E n s g st. omega (arith, part_length l q.at q.end i, simp length-append at (ap length st.0))
 
-  pub number-low : at + dim_width ≤ end → end ≤ length l → dim_at l at < k → (m : List ℕ) → Moves (number k v) at end left l m Stop m
-  number-low h i j m = λ E n s g st. omega (arith, (dim-prefix (dim_at l at) (k + E.num v) (part l (at + dim_width) end) s (sym (dim-part h i) ∙ st.0)).0)
+  pub number-low : q.at + dim_width ≤ q.end → q.end ≤ length l → dim_at l q.at < k → (m : Bindings) → Moves (number k v) q l m None m
+  number-low h i j m = λ E n s g st. omega (arith, (dim-prefix k v q.at q.end q.left l (dim_at l q.at) (k + E.num v) (part l (q.at + dim_width) q.end) s (sym (dim-part k v q.at q.end q.left l h i) ∙ st.0)).0)
 
 -- Slots of bytes ------------------------------------------------------------------------------
 
@@ -200,24 +203,25 @@ module _ (u at end left : ℕ) (l : List ℕ) where
       bytes-of : {x y : List ℕ} → bytes x ≡ bytes y → x ≡ y
       bytes-of e = cc
 
-  module _ (e : ℕ) (b : u < 24) (z : Ends (Thing u left) l at end (At e)) (m m' : List ℕ) (r : Bool) where
-    slot-moves : Binds l m u (bytes (part l at e)) r m' → Moves (slot u) at end left l m (outcome r e left) m'
-    slot-moves = bound-moves (slot u) at end left l m m' u (bytes (part l at e)) e r (slot-reading e b z.0 z.1 z.2) z.1
+module _ (u : ℕ) (q : State) (l : List ℕ) where
+  module _ (e : ℕ) (b : u < 24) (z : Ends (Thing u q.left) l q.at q.end (Some e)) (m m' : Bindings) (r : Bool) where
+    slot-moves : Binds l m u (bytes (part l q.at e)) r m' → Moves (slot u) q l m (outcome r (moved q e q.left)) m'
+    slot-moves = bound-moves (slot u) q l m m' u (bytes (part l q.at e)) e r (slot-reading u q.at q.end q.left l e b z.0 z.1 z.2) z.1
 
-    pub slot-yes : r ≡ true → Binds l m u (bytes (part l at e)) r m' → Moves (slot u) at end left l m (Move e left) m'
-    slot-yes q g = rw q at (slot-moves g)
+    pub slot-yes : r ≡ true → Binds l m u (bytes (part l q.at e)) r m' → Moves (slot u) q l m (Some (moved q e q.left)) m'
+    slot-yes f g = rw f at (slot-moves g)
 
-    pub slot-no : r ≡ false → Binds l m u (bytes (part l at e)) r m' → Moves (slot u) at end left l m Stop m'
-    slot-no q g = rw q at (slot-moves g)
+    pub slot-no : r ≡ false → Binds l m u (bytes (part l q.at e)) r m' → Moves (slot u) q l m None m'
+    slot-no f g = rw f at (slot-moves g)
 
-  pub slot-none : Ends (Thing u left) l at end Nowhere → (m : List ℕ) → Moves (slot u) at end left l m Stop m
+  pub slot-none : Ends (Thing u q.left) l q.at q.end None → (m : Bindings) → Moves (slot u) q l m None m
   slot-none h m = λ E n s g st. h (bytes_of E u) s st.2 st.0
 
 -- Where things end ---------------------------------------------------------------------------
 
-ends_as : {P Q : List ℕ → Type 0} (l : List ℕ) (at end : ℕ) (r : Ending) → ((x : List ℕ) → P x → Q x) → ((x : List ℕ) → Q x → P x) → Ends P l at end r → Ends Q l at end r
-ends_as l at end (At e) f g h = (h.0, h.1, f (part l at e) h.2)
-ends_as l at end Nowhere f g h = λ x m q. h x m (g x q)
+ends_as : {P Q : List ℕ → Type 0} (l : List ℕ) (at end : ℕ) (r : Option ℕ) → ((x : List ℕ) → P x → Q x) → ((x : List ℕ) → Q x → P x) → Ends P l at end r → Ends Q l at end r
+ends_as l at end (Some e) f g h = (h.0, h.1, f (part l at e) h.2)
+ends_as l at end None f g h = λ x m q. h x m (g x q)
 
 module _ (u n : ℕ) where
   face-thing : u % 3 ≡ 0 → (x : List ℕ) → Formula faces x → Thing u n x
@@ -244,7 +248,7 @@ module _ (u n : ℕ) where
   thing-faces h x (an-interval p r) = absurd (omega arith)
   thing-faces h x (some-faces p G q) = (G, refl, q)
 
-  module _ (l : List ℕ) (at end : ℕ) (r : Ending) where
+  module _ (l : List ℕ) (at end : ℕ) (r : Option ℕ) where
     pub end-face : u % 3 ≡ 0 → Ends (Formula faces) l at end r → Ends (Thing u n) l at end r
     end-face h = ends_as {P = Formula faces} {Q = Thing u n} l at end r (face-thing h) (thing-face h)
 
@@ -255,28 +259,28 @@ module _ (u n : ℕ) where
     end-faces h = ends_as {P = Faces n} {Q = Thing u n} l at end r (faces-thing h) (thing-faces h)
 
 module _ (s : Sort) (l : List ℕ) (at end : ℕ) (h : at ≤ end) (k : end ≤ length l) where
-  pub formula-at : (r : Measured) (z : Size) → said_measured r ≡ measurement_at s (part l at end) 0 → r ≡ found z → Ends (Formula s) l at end (At (at + z.len))
-  unfolding measured_at
-  formula-at r z e f = go (read s (part l at end)) refl (sym (measured_at-as s (part l at end) 0 e) ∙ f)
+  pub formula-at : (z : Size) → measurement_at s (part l at end) 0 ≡ Ok z → Ends (Formula s) l at end (Some (at + z.len))
+  unfolding measurement_at
+  formula-at z e = go (read s (part l at end)) refl e
     where
-      go : (g : Got (Tree s)) → read s (part l at end) ≡ g → front_size s g ≡ found z → Ends (Formula s) l at end (At (at + z.len))
+      go : (g : Got (Tree s)) → read s (part l at end) ≡ g → size_front s g ≡ Ok z → Ends (Formula s) l at end (Some (at + z.len))
       go nothing i j = absurd (let o : ◌≡◌ {A = ℕ} 0 1 = cc in omega arith)
       go (got t m) i j =
           let p = part-split l at end (encode s t) m h k (encode-read s (part l at end) t m i) in
-          let n : length (encode s t) ≡ z.len = ap (λ (x : Measured). length_of x) j in
+          let n : length (encode s t) ≡ z.len = ap length_of j in
           rw (← n) (omega arith, p.0, (t, p.1))
         where
-          length_of : Measured → ℕ
-          length_of (found z) = z.len
-          length_of Ill = 0
+          length_of : Result Size Refusal → ℕ
+          length_of (Ok z) = z.len
+          length_of (Err e) = 0
 
-  pub formula-nowhere : (r : Measured) → said_measured r ≡ measurement_at s (part l at end) 0 → r ≡ Ill → Ends (Formula s) l at end Nowhere
-  unfolding measured_at
-  formula-nowhere r e f = λ x m t i. go t.0 m (i ∙ ap (λ (z : List ℕ). z ++ m) t.1) (sym (measured_at-as s (part l at end) 0 e) ∙ f)
+  pub formula-nowhere : (x : Refusal) → measurement_at s (part l at end) 0 ≡ Err x → Ends (Formula s) l at end None
+  unfolding measurement_at
+  formula-nowhere y e = λ x m t i. go t.0 m (i ∙ ap (λ (z : List ℕ). z ++ m) t.1)
     where
-      go : (t : Tree s) (m : List ℕ) → part l at end ≡ encode s t ++ m → front_size s (read s (part l at end)) ≡ Ill → ⊥
-      go t m i j =
-          let p : front_size s (got t m) ≡ Ill = sym (ap (front_size s) (ap (read s) i ∙ read-encode s t m)) ∙ j in
+      go : (t : Tree s) (m : List ℕ) → part l at end ≡ encode s t ++ m → ⊥
+      go t m i =
+          let p : size_front s (got t m) ≡ Err y = sym (ap (size_front s) (ap (read s) i ∙ read-encode s t m)) ∙ e in
           let o : ◌≡◌ {A = ℕ} 0 1 = cc in
           omega arith
 
@@ -300,7 +304,7 @@ module _ (l : List ℕ) (n at end : ℕ) where
   passed_start h = record { low = omega arith; high = h; most = omega arith; seen = ([], part_none l at, refl); rest = λ G m p e. (G, omega arith, e) }
 
   module _ (e i : ℕ) (v : Passed l n at end e i) where
-    pub passed_on : (x : ℕ) → i < n → Ends (Formula faces) l e end (At x) → Passed l n at end x (i + 1)
+    pub passed_on : (x : ℕ) → i < n → Ends (Formula faces) l e end (Some x) → Passed l n at end x (i + 1)
     unfolding faces_bytes
     passed_on x b q = record {
       low = omega (arith, v.low, q.0);
@@ -319,7 +323,7 @@ module _ (l : List ℕ) (n at end : ℕ) where
         go (f ∷ D) m p s =
             (D, omega arith, (encode-prefix faces q.2.0 f (part l x end) (faces_bytes D ++ m) (ap (λ (z : List ℕ). z ++ part l x end) (sym q.2.1) ∙ sym (part_join l e x end q.0 q.1) ∙ s ∙ append_assoc (encode_face f) (faces_bytes D) m)).1)
 
-    pub passed_none : i < n → Ends (Formula faces) l e end Nowhere → Ends (Faces n) l at end Nowhere
+    pub passed_none : i < n → Ends (Formula faces) l e end None → Ends (Faces n) l at end None
     unfolding faces_bytes
     passed_none b q = λ x m t s. let d = v.rest t.0 m t.2 (s ∙ ap (λ (z : List ℕ). z ++ m) t.1) in go d.0 m d.1 d.2
       where
@@ -327,107 +331,66 @@ module _ (l : List ℕ) (n at end : ℕ) where
         go [] m p s = omega arith
         go (f ∷ D) m p s = q (encode_face f) (faces_bytes D ++ m) (f, refl) (s ∙ append_assoc (encode_face f) (faces_bytes D) m)
 
-    pub passed-all : n ≤ i → Ends (Faces n) l at end (At e)
+    pub passed-all : n ≤ i → Ends (Faces n) l at end (Some e)
     passed-all b = (v.low, v.high, (v.seen.0, v.seen.1, v.seen.2 ∙ omega (arith, v.most)))
 
 -- Bytes that must stand there, and counts --------------------------------------------------------
 
 -- A token that binds nothing, and leads to one place only.
-plain-moves : (t : Token) (at end left : ℕ) (l : List ℕ) (a h : ℕ) → a ≤ end
-    → ((E : Env) (n : ℕ) (s : List ℕ) → Consumes E t left (part l at end) n s → (n ≡ h) × (s ≡ part l a end)) → ((E : Env) → Consumes E t left (part l at end) h (part l a end))
-    → (m : List ℕ) → Moves t at end left l m (Move a h) m
-plain-moves t at end left l a h w f b m = record { within = w; forth = λ E n s g st. (g, (f E n s st).0, (f E n s st).1); back = λ E g. (g, b E); some = λ p. p }
+plain-moves : (t : Token) (q : State) (l : List ℕ) (a h : ℕ) → a ≤ q.end
+    → ((E : Env) (n : ℕ) (s : List ℕ) → Consumes E t q.left (part l q.at q.end) n s → (n ≡ h) × (s ≡ part l a q.end)) → ((E : Env) → Consumes E t q.left (part l q.at q.end) h (part l a q.end))
+    → MovesOnly t q l (Some (moved q a h))
+plain-moves t q l a h w f b m = record { kept = (refl, refl); within = w; forth = λ E n s g st. (g, (f E n s st).0, (f E n s st).1); back = λ E g. (g, b E); possible = λ p. p }
 
-module _ (at end left : ℕ) (l : List ℕ) (o : at ≤ end) (i : end ≤ length l) where
-  pub byte-none : (b : ℕ) → end ≤ at → (m : List ℕ) → Moves (byte b) at end left l m Stop m
-  byte-none b h m = λ E n s g st. omega (arith, part_length l at end i, ap length st.0)
+module _ (q : State) (l : List ℕ) (o : q.at ≤ q.end) (i : q.end ≤ length l) where
+  pub byte-none : (b : ℕ) → q.end ≤ q.at → MovesOnly (byte b) q l None
+  byte-none b h m = λ E n s g st. omega (arith, part_length l q.at q.end i, ap length st.0)
 
-  pub byte-no : (b x : ℕ) → at < end → x ≡ get_or l at 0 → (x ≡ b → ⊥) → (m : List ℕ) → Moves (byte b) at end left l m Stop m
-  byte-no b x h e d m = λ E n s g st. d (e ∙ head-eq_of_cons-eq (sym (part-cons l at end 0 h i) ∙ st.0))
+  pub byte-no : (b x : ℕ) → q.at < q.end → x ≡ get_or l q.at 0 → (x ≡ b → ⊥) → MovesOnly (byte b) q l None
+  byte-no b x h e d m = λ E n s g st. d (e ∙ head-eq_of_cons-eq (sym (part-cons l q.at q.end 0 h i) ∙ st.0))
 
-  pub byte-yes : (b x : ℕ) → at < end → x ≡ get_or l at 0 → x ≡ b → (m : List ℕ) → Moves (byte b) at end left l m (Move (at + 1) left) m
-  byte-yes b x h e d = plain-moves (byte b) at end left l (at + 1) left (omega arith)
-      (λ E n s st. (st.1, sym (tail-eq_of_cons-eq (sym (part-cons l at end 0 h i) ∙ st.0))))
-      (λ E. (part-cons l at end 0 h i ∙ ap (λ (z : ℕ). z ∷ part l (at + 1) end) (sym e ∙ d), refl))
+  pub byte-yes : (b x : ℕ) → q.at < q.end → x ≡ get_or l q.at 0 → x ≡ b → MovesOnly (byte b) q l (Some (moved q (q.at + 1) q.left))
+  byte-yes b x h e d = plain-moves (byte b) q l (q.at + 1) q.left (omega arith)
+      (λ E n s st. (st.1, sym (tail-eq_of_cons-eq (sym (part-cons l q.at q.end 0 h i) ∙ st.0))))
+      (λ E. (part-cons l q.at q.end 0 h i ∙ ap (λ (z : ℕ). z ∷ part l (q.at + 1) q.end) (sym e ∙ d), refl))
 
-  pub done-no : (left ≡ 0 → ⊥) → (m : List ℕ) → Moves done at end left l m Stop m
+  pub done-no : (q.left ≡ 0 → ⊥) → MovesOnly done q l None
   done-no d m = λ E n s g st. d st.2
 
-  pub done-yes : left ≡ 0 → (m : List ℕ) → Moves done at end left l m (Move at left) m
-  done-yes d = plain-moves done at end left l at left o (λ E n s st. (st.1, sym st.0)) (λ E. (refl, refl, d))
+  pub done-yes : q.left ≡ 0 → MovesOnly done q l (Some (moved q q.at q.left))
+  done-yes d = plain-moves done q l q.at q.left o (λ E n s st. (st.1, sym st.0)) (λ E. (refl, refl, d))
 
-  pub pad-yes : (m : List ℕ) → Moves pad at end left l m (Move at left) m
-  pad-yes = plain-moves pad at end left l at left o (λ E n s st. (st.1, sym st.0)) (λ E. (refl, refl))
+  pub pad-yes : MovesOnly pad q l (Some (moved q q.at q.left))
+  pad-yes = plain-moves pad q l q.at q.left o (λ E n s st. (st.1, sym st.0)) (λ E. (refl, refl))
 
   module _ (k : ℕ) where
-    pub count_none : end - at < 2 → (m : List ℕ) → Moves (front k) at end left l m Stop m
-    count_none h m = λ E n s g st. omega (arith, part_length l at end i, ap length st.0)
+    pub count_none : q.end - q.at < 2 → MovesOnly (front k) q l None
+    count_none h m = λ E n s g st. omega (arith, part_length l q.at q.end i, ap length st.0)
 
-    module _ (x y : ℕ) (h : 2 ≤ end - at) (e : x ≡ get_or l at 0) (f : y ≡ get_or l (at + 1) 0) (p : x < 256) (q : y < 256) where
-      two : part l at end ≡ x ∷ y ∷ part l (at + 2) end
+    module _ (x y : ℕ) (h : 2 ≤ q.end - q.at) (e : x ≡ get_or l q.at 0) (f : y ≡ get_or l (q.at + 1) 0) (xb : x < 256) (yb : y < 256) where
+      two : part l q.at q.end ≡ x ∷ y ∷ part l (q.at + 2) q.end
       two =
-          let j : at + 1 + 1 ≡ at + 2 = omega arith in
-          part-cons l at end 0 (omega arith) i ∙ ap₂ ◌∷◌ (sym e) (part-cons l (at + 1) end 0 (omega arith) i ∙ ap₂ (λ (a : ℕ) (b : ℕ). a ∷ part l b end) (sym f) j)
+          let j : q.at + 1 + 1 ≡ q.at + 2 = omega arith in
+          part-cons l q.at q.end 0 (omega arith) i ∙ ap₂ ◌∷◌ (sym e) (part-cons l (q.at + 1) q.end 0 (omega arith) i ∙ ap₂ (λ (a : ℕ) (b : ℕ). a ∷ part l b q.end) (sym f) j)
 
-      sum : (n : ℕ) (s : List ℕ) → part l at end ≡ little_endian 2 (k + n) ++ s → k + n < 65536 → (k + n ≡ x + 256 * y) × (s ≡ part l (at + 2) end)
+      sum : (n : ℕ) (s : List ℕ) → part l q.at q.end ≡ little_endian 2 (k + n) ++ s → k + n < 65536 → (k + n ≡ x + 256 * y) × (s ≡ part l (q.at + 2) q.end)
       sum n s st b =
-          let c : x ∷ y ∷ part l (at + 2) end ≡ (k + n) % 256 ∷ ((k + n) / 256) % 256 ∷ s = sym two ∙ st in
+          let c : x ∷ y ∷ part l (q.at + 2) q.end ≡ (k + n) % 256 ∷ ((k + n) / 256) % 256 ∷ s = sym two ∙ st in
           let a : x ≡ (k + n) % 256 = head-eq_of_cons-eq c in
           let d : y ≡ ((k + n) / 256) % 256 = head-eq_of_cons-eq (tail-eq_of_cons-eq c) in
           (omega arith, sym (tail-eq_of_cons-eq (tail-eq_of_cons-eq c)))
 
-      pub count_low : x + 256 * y < k → (m : List ℕ) → Moves (front k) at end left l m Stop m
+      pub count_low : x + 256 * y < k → MovesOnly (front k) q l None
       count_low b m = λ E n s g st. omega (arith, (sum n s st.0 st.1).0)
 
-      pub count_yes : k ≤ x + 256 * y → (m : List ℕ) → Moves (front k) at end left l m (Move (at + 2) (x + 256 * y - k)) m
-      count_yes b = plain-moves (front k) at end left l (at + 2) (x + 256 * y - k) (omega arith)
+      pub count_yes : k ≤ x + 256 * y → MovesOnly (front k) q l (Some (moved q (q.at + 2) (x + 256 * y - k)))
+      count_yes b = plain-moves (front k) q l (q.at + 2) (x + 256 * y - k) (omega arith)
           (λ E n s st. let c = sum n s st.0 st.1 in (omega (arith, c.0), c.1))
           (λ E. (two ∙ written, omega arith))
         where
-          written : x ∷ y ∷ part l (at + 2) end ≡ little_endian 2 (k + (x + 256 * y - k)) ++ part l (at + 2) end
+          written : x ∷ y ∷ part l (q.at + 2) q.end ≡ little_endian 2 (k + (x + 256 * y - k)) ++ part l (q.at + 2) q.end
           written =
               let a : x ≡ (k + (x + 256 * y - k)) % 256 = omega arith in
               let d : (k + (x + 256 * y - k)) / 256 ≡ y = omega arith in
               let c : y ≡ ((k + (x + 256 * y - k)) / 256) % 256 = omega arith in
-              ap₂ (λ (v : ℕ) (w : ℕ). v ∷ w ∷ part l (at + 2) end) a c
-
--- Which token a byte stands for -------------------------------------------------------------------
-
-module _ (b at end left : ℕ) (l m : List ℕ) (r : Next) (m' : List ℕ) where
-  moves-as : (t : Token) → token b ≡ t → Moves t at end left l m r m' → Moves (token b) at end left l m r m'
-  moves-as t e h = subst (λ (u : Token). Moves u at end left l m r m') (sym e) h
-
-  pub as_byte : b < 32 → Moves (byte b) at end left l m r m' → Moves (token b) at end left l m r m'
-  as_byte h = moves-as (byte b) (rw (lt-ltb b 32 h))
-
-  pub as_number : 32 ≤ b → b < 40 → Moves (number 0 (b - 32)) at end left l m r m' → Moves (token b) at end left l m r m'
-  as_number h k = moves-as (number 0 (b - 32)) (rw (le-ltb b 32 h, lt-ltb b 40 k))
-
-  pub as-above : 40 ≤ b → b < 48 → Moves (number 1 (b - 40)) at end left l m r m' → Moves (token b) at end left l m r m'
-  as-above h k = let o : 32 ≤ b = omega arith in moves-as (number 1 (b - 40)) (rw (le-ltb b 32 o, le-ltb b 40 h, lt-ltb b 48 k))
-
-  pub as-slot : 48 ≤ b → b < 72 → Moves (slot (b - 48)) at end left l m r m' → Moves (token b) at end left l m r m'
-  as-slot h k =
-      let o : 32 ≤ b = omega arith in
-      let p : 40 ≤ b = omega arith in
-      moves-as (slot (b - 48)) (rw (le-ltb b 32 o, le-ltb b 40 p, le-ltb b 48 h, lt-ltb b 72 k))
-
-  pub as-front : 72 ≤ b → b < 80 → Moves (front (b - 72)) at end left l m r m' → Moves (token b) at end left l m r m'
-  as-front h k =
-      let o : 32 ≤ b = omega arith in
-      let p : 40 ≤ b = omega arith in
-      let q : 48 ≤ b = omega arith in
-      moves-as (front (b - 72)) (rw (le-ltb b 32 o, le-ltb b 40 p, le-ltb b 48 q, le-ltb b 72 h, lt-ltb b 80 k))
-
-  pub as-done : b ≡ 80 → Moves done at end left l m r m' → Moves (token b) at end left l m r m'
-  as-done h = moves-as done (ap token h)
-
-  pub as-pad : 80 < b → Moves pad at end left l m r m' → Moves (token b) at end left l m r m'
-  as-pad h =
-      let o : 32 ≤ b = omega arith in
-      let p : 40 ≤ b = omega arith in
-      let q : 48 ≤ b = omega arith in
-      let k : 72 ≤ b = omega arith in
-      let j : 80 ≤ b = omega arith in
-      let i : 81 ≤ b = omega arith in
-      moves-as pad (rw (le-ltb b 32 o, le-ltb b 40 p, le-ltb b 48 q, le-ltb b 72 k, le-ltb b 80 j, le-ltb b 81 i))
+              ap₂ (λ (v : ℕ) (w : ℕ). v ∷ w ∷ part l (q.at + 2) q.end) a c

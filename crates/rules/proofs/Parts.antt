@@ -5,7 +5,7 @@ use Prim.Native.Nat.{ℕ, suc, ◌+◌, ◌-◌, ◌≤◌, ◌<◌}
 use native.Mathlib.Omega.{arith}
 use lib.ListN.{length, get_or, take, drop, length-append, length-take, length-drop}
 use lib.Seq.{drop-cons, drop-drop, take-add, take_at, drop_at}
-use Rattle.rules.specs.Standing.{part}
+use Rattle.rows.specs.Flattening.{part}
 
 module _ {A : Type 0} (l : List A) where
   pub part_none : (a : ℕ) → part l a a ≡ []

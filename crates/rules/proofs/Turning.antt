@@ -1,24 +1,26 @@
--- A row's items one by one: the code's turn is the only one, and the loop says whether all of them fit.
-use mathlib.Core.Path.{◌≡◌, refl, sym, ap, ◌∙◌, subst}
+-- A row's items one by one: the code's turn is the only one, and the loops say whether all of them fit.
+use mathlib.Core.Path.{◌≡◌, refl, sym, ap, ◌∙◌}
 use mathlib.Core.Bool.{Bool, true, false}
-use mathlib.Core.List.{List, [], ◌∷◌, head-eq_of_cons-eq, tail-eq_of_cons-eq}
-use Prim.Native.Nat.{ℕ, suc, ◌+◌, ◌-◌, ◌≤◌, ◌<◌}
+use mathlib.Core.List.{List, [], ◌∷◌, ◌++◌, append-nil, append_assoc, head-eq_of_cons-eq, tail-eq_of_cons-eq}
+use Prim.Native.Nat.{ℕ, zero, suc, ◌+◌, ◌≤◌, ◌<◌}
 use native.Mathlib.Omega.{arith}
-use borrow.Author.Tests.{lt-ltb, le-ltb, eqb-true, eq-eqb}
+use native.Mathlib.Numerals.{add-one}
+use borrow.Author.Tests.{eqb-true, eq-eqb}
 use lib.Dec.{eqb}
-use lib.ListN.{length, get_or, replicate, length-replicate, get_or-replicate}
+use lib.ListN.{length, get_or, take, drop}
+use lib.Seq.{drop-cons}
+use Rattle.std.specs.Prelude.{Option, None, Some}
 use Rattle.calculus.proofs.Rows.{Env}
-use Rattle.rules.specs.Standing.{part, Lies, Decides}
-use Rattle.rows.specs.Items.{token, Item, claim, inside, item}
-use Rattle.rules.specs.Matching.{Claim, claimed, Fits, over, turn, claims, Matched, Held, held_in, Agrees, Some, Moves, Placed, Turns}
-use Rattle.rows.specs.Flattening.{blank}
+use Rattle.rows.specs.declared.Token.{Token}
+use Rattle.rows.specs.declared.Item.{Item}
+use Rattle.rows.specs.declared.Item.TheVariants.{Claim as claim, Inside as inside}
+use Rattle.rows.specs.Flattening.{part, joined, blank}
+use Rattle.rules.specs.Standing.{Lies, Decides}
+use Rattle.rules.specs.declared.Claim.{Claim}
 use Rattle.rules.specs.declared.State.{State}
-use Rattle.rules.specs.declared.Turn.{Turn}
-use Rattle.rules.specs.declared.Turn.TheVariants.{To, No}
-use Rattle.rules.specs.declared.tokens.Next.{Next}
-use Rattle.rules.specs.declared.tokens.Next.TheVariants.{Move, Stop}
-use Rattle.rules.proofs.Moving.{as-pad, pad-yes}
-use Rattle.rules.proofs.Parts.{part_none, part_length, part-cons}
+use Rattle.rules.specs.declared.slots.Bindings.{Bindings}
+use Rattle.rules.specs.Matching.{Spoken, claimed, Fits, over, turn, spoken_by, spoken, Matched, held_in, Agrees, Free, Moves, Placed, Turns, Begins, FitsAt, Passes}
+use Rattle.rules.proofs.Parts.{part_none, part_length}
 
 claimed-number : {p q : ℕ} {x y : List ℕ} → claimed p x ≡ claimed q y → p ≡ q
 claimed-number e = cc
@@ -31,167 +33,187 @@ none-some e = absurd (let z : ◌≡◌ {A = ℕ} 0 1 = cc in omega arith)
 
 -- The next judgement -------------------------------------------------------------------------------
 
-module _ (l preds from to : List ℕ) (n : ℕ) where
-  claims-next : (j : ℕ) → j < n → claims l preds from to (n - j) j ≡ claimed (get_or preds j 0) (part l (get_or from j 0) (get_or to j 0)) ∷ claims l preds from to (n - (j + 1)) (j + 1)
-  unfolding claims
-  claims-next j h =
-      let p : n - j ≡ suc (n - (j + 1)) = omega arith in
+drop-past : {A : Type 0} (l : List A) (n : ℕ) → length l ≤ n → drop n l ≡ []
+drop-past [] zero h = refl
+drop-past [] (suc n) h = refl
+drop-past (x ∷ l) zero h = absurd (omega arith)
+drop-past (x ∷ l) (suc n) h = drop-past l n (omega arith)
+
+module _ (l : List ℕ) (cs : List Claim) where
+  spoken-next : (j : ℕ) (d : Claim) → j < length cs → spoken l (drop j cs) ≡ spoken_by l (get_or cs j d) ∷ spoken l (drop (j + 1) cs)
+  spoken-next j d h =
       let q : suc j ≡ j + 1 = omega arith in
-      ap (λ (k : ℕ). claims l preds from to k j) p ∙ ap (λ (k : ℕ). claimed (get_or preds j 0) (part l (get_or from j 0) (get_or to j 0)) ∷ claims l preds from to (n - (j + 1)) k) q
+      ap (spoken l) (drop-cons cs j d h) ∙ ap (λ (k : ℕ). spoken_by l (get_or cs j d) ∷ spoken l (drop k cs)) q
 
-  claims-over : (j : ℕ) → n ≤ j → claims l preds from to (n - j) j ≡ []
-  unfolding claims
-  claims-over j h = let p : n - j ≡ 0 = omega arith in ap (λ (k : ℕ). claims l preds from to k j) p
+  spoken-over : (j : ℕ) → length cs ≤ j → spoken l (drop j cs) ≡ []
+  spoken-over j h = ap (spoken l) (drop-past cs j h)
 
-  module _ (q : State) (v : Placed l n q) where
+  module _ (q : State) (v : Placed l cs q) where
     ended : part l q.at q.end ≡ [] → q.at ≡ q.end
     ended e = omega (arith, v.ordered, v.within, part_length l q.at q.end v.within, ap length e)
 
     module _ (p : ℕ) where
-      pub judge-more : (q.at ≡ q.end → ⊥) → (m : List ℕ) → Turns (claim p) q l preds from to n m No m
-      judge-more d m = λ E k s cs g t. d (ended t.0)
+      pub judge-more : (q.at ≡ q.end → ⊥) → Begins (claim p) q l cs None
+      judge-more d m = λ E k s ds g t. d (ended t.0)
 
-      pub judge-none : n ≤ q.j → (m : List ℕ) → Turns (claim p) q l preds from to n m No m
-      judge-none h m = λ E k s cs g t. none-some (sym (claims-over q.j h) ∙ t.2)
+      pub judge-none : length cs ≤ q.j → Begins (claim p) q l cs None
+      judge-none h m = λ E k s ds g t. none-some (sym (spoken-over q.j h) ∙ t.2)
 
-      pub judge-no : q.j < n → (get_or preds q.j 0 ≡ p → ⊥) → (m : List ℕ) → Turns (claim p) q l preds from to n m No m
-      judge-no h d m = λ E k s cs g t. d (claimed-number (head-eq_of_cons-eq (sym (claims-next q.j h) ∙ t.2)))
+      pub judge-no : (d : Claim) → q.j < length cs → ((get_or cs q.j d).predicate ≡ p → ⊥) → Begins (claim p) q l cs None
+      judge-no d h n m = λ E k s ds g t. n (claimed-number (head-eq_of_cons-eq (sym (spoken-next q.j d h) ∙ t.2)))
 
-      pub judge-yes : Lies l from to n → q.at ≡ q.end → q.j < n → get_or preds q.j 0 ≡ p → (m : List ℕ)
-          → Turns (claim p) q l preds from to n m (To (record { at = get_or from q.j 0; end = get_or to q.j 0; left = 0; j = q.j + 1 })) m
-      judge-yes z e h d m = record {
-        placed = record { ordered = z.ordered q.j h; within = z.within q.j h; among = omega arith };
-        forth = λ E k s cs g t. let c = sym (claims-next q.j h) ∙ t.2 in (g, t.1, sym (claimed-bytes (head-eq_of_cons-eq c)), sym (tail-eq_of_cons-eq c));
-        back = λ E g. (g, (ap (λ (a : ℕ). part l a q.end) e ∙ part_none l q.end, refl, claims-next q.j h ∙ ap (λ (a : ℕ). claimed a (part l (get_or from q.j 0) (get_or to q.j 0)) ∷ claims l preds from to (n - (q.j + 1)) (q.j + 1)) d));
-        some = λ p. p;
+      pub judge-yes : (d : Claim) → Lies l cs → q.at ≡ q.end → q.j < length cs → (get_or cs q.j d).predicate ≡ p
+          → Begins (claim p) q l cs (Some (record { at = (get_or cs q.j d).from; end = (get_or cs q.j d).to; left = 0; j = q.j + 1 }))
+      judge-yes d z e h n m = record {
+        placed = record { ordered = (z q.j d h).0; within = (z q.j d h).1; among = omega arith };
+        forth = λ E k s ds g t. let c = sym (spoken-next q.j d h) ∙ t.2 in (g, t.1, sym (claimed-bytes (head-eq_of_cons-eq c)), sym (tail-eq_of_cons-eq c));
+        back = λ E g. (g, (ap (λ (a : ℕ). part l a q.end) e ∙ part_none l q.end, refl, spoken-next q.j d h ∙ ap (λ (a : ℕ). claimed a (part l (get_or cs q.j d).from (get_or cs q.j d).to) ∷ spoken l (drop (q.j + 1) cs)) n));
+        possible = λ p. p;
       }
 
-    -- One byte ----------------------------------------------------------------------------------------
+    -- A token of the present judgement.
+    pub token-turns : (t : Token) (m m' : Bindings) (r : Option State) → Moves t q l m r m' → Turns (inside t) q l cs m r m'
+    token-turns t m m' None w = λ E k s ds g x. w E k s g x.0
+    token-turns t m m' (Some p) w = record {
+      placed = record { ordered = w.within; within = omega (arith, w.kept.0, v.within); among = omega (arith, w.kept.1, v.among) };
+      forth = λ E k s ds g x. let f = w.forth E k s g x.0 in (f.0, f.1, f.2, x.1 ∙ ap (λ (j : ℕ). spoken l (drop j cs)) (sym w.kept.1));
+      back = λ E g. let f = w.back E g in (f.0, (f.1, ap (λ (j : ℕ). spoken l (drop j cs)) w.kept.1));
+      possible = w.possible;
+    }
 
-    module _ (b : ℕ) (m m' : List ℕ) where
-      turns_as : (i : Item) (r : Turn) → item b ≡ i → Turns i q l preds from to n m r m' → Turns (item b) q l preds from to n m r m'
-      turns_as i r e h = subst (λ (o : Item). Turns o q l preds from to n m r m') (sym e) h
+-- Items one after another ------------------------------------------------------------------------------
 
-      pub as-claim : 96 ≤ b → (r : Turn) → Turns (claim (b - 96)) q l preds from to n m r m' → Turns (item b) q l preds from to n m r m'
-      unfolding item
-      as-claim h r = turns_as (claim (b - 96)) r (rw (le-ltb b 96 h))
-
-      as-inside : b < 96 → (r : Turn) → Turns (inside (token b)) q l preds from to n m r m' → Turns (item b) q l preds from to n m r m'
-      unfolding item
-      as-inside h r = turns_as (inside (token b)) r (rw (lt-ltb b 96 h))
-
-      pub byte-stop : b < 96 → (r : Next) → r ≡ Stop → Moves (token b) q.at q.end q.left l m r m' → Turns (item b) q l preds from to n m No m'
-      byte-stop h r e w = as-inside h No (λ E k s cs g t. told E k s g t.0)
-        where
-          told : Moves (token b) q.at q.end q.left l m Stop m'
-          told = subst (λ (x : Next). Moves (token b) q.at q.end q.left l m x m') e w
-
-      pub byte-move : b < 96 → (r : Next) (x y : ℕ) → r ≡ Move x y → Moves (token b) q.at q.end q.left l m r m'
-          → Turns (item b) q l preds from to n m (To (record { at = x; end = q.end; left = y; j = q.j })) m'
-      byte-move h r x y e w = as-inside h (To (record { at = x; end = q.end; left = y; j = q.j })) (record {
-        placed = record { ordered = told.within; within = v.within; among = v.among };
-        forth = λ E k s cs g t. let f = told.forth E k s g t.0 in (f.0, f.1, f.2, t.1);
-        back = λ E g. let f = told.back E g in (f.0, (f.1, refl));
-        some = told.some;
-      })
-        where
-          told : Moves (token b) q.at q.end q.left l m (Move x y) m'
-          told = subst (λ (z : Next). Moves (token b) q.at q.end q.left l m z m') e w
-
-    -- Nothing is passed over.
-    pub turn-pad : {b : ℕ} → b ≡ 81 → (m : List ℕ) → Turns (item b) q l preds from to n m (To q) m
-    turn-pad {b} e m =
-        byte-move b m m (omega arith) (Move q.at q.left) q.at q.left refl
-        (as-pad b q.at q.end q.left l m (Move q.at q.left) m (omega arith) (pad-yes q.at q.end q.left l v.ordered v.within m))
-
--- The loop ---------------------------------------------------------------------------------------------
-
--- The items up to i have been passed: the whole fits exactly where the rest does.
-pub record Going (is : List Item) (start stop : ℕ) (l preds from to : List ℕ) (n : ℕ) (m : List ℕ) (q : State) (i : ℕ) : Type 0 where
-  pub placed : Placed l n q
-  pub low : start ≤ i
-  pub high : i ≤ stop
-  pub some : Some l m
-  pub forth : (E : Env) → Fits E (part is start stop) 0 [] (claims l preds from to n 0)
-      → Agrees l m (held_in E) × Fits E (part is i stop) q.left (part l q.at q.end) (claims l preds from to (n - q.j) q.j)
-  pub back : (E : Env) → Agrees l m (held_in E) → Fits E (part is i stop) q.left (part l q.at q.end) (claims l preds from to (n - q.j) q.j)
-      → Fits E (part is start stop) 0 [] (claims l preds from to n 0)
-
-fits-as : {E : Env} {is : List Item} {n k : ℕ} {s t : List ℕ} {cs ds : List Claim} → n ≡ k → s ≡ t → cs ≡ ds → Fits E is n s cs → Fits E is k t ds
+fits-as : {E : Env} {is : List Item} {n k : ℕ} {s t : List ℕ} {cs ds : List Spoken} → n ≡ k → s ≡ t → cs ≡ ds → Fits E is n s cs → Fits E is k t ds
 fits-as p q r f = rw (← p, ← q, ← r) f
 
-module _ (is : List Item) (start stop : ℕ) (l preds from to : List ℕ) (n : ℕ) where
-  abbrev Whole : Type 0
-  Whole = Matched (part is start stop) (claims l preds from to n 0)
+module _ (l : List ℕ) (cs : List Claim) (q : State) (m : Bindings) where
+  pub passes-none : Placed l cs q → Passes [] q l cs m (Some q) m
+  passes-none v = record { placed = v; forth = λ E js g f. (g, f); back = λ E js g f. (g, f); possible = λ p. p }
 
-  pub going_start : start ≤ stop → Going is start stop l preds from to n (replicate 64 0) (record { at = 0; end = 0; left = 0; j = 0 }) start
-  going_start h = record {
-    placed = record { ordered = omega arith; within = omega arith; among = omega arith };
-    low = omega arith;
-    high = h;
-    some = (blank, free (held_in blank));
-    forth = λ E f. (free (held_in E), fits-as refl (sym (part_none l 0)) same f);
-    back = λ E g f. fits-as refl (part_none l 0) (sym same) f;
+  passes-one : (i : Item) (r : Option State) (m' : Bindings) → Turns i q l cs m r m' → Passes (i ∷ []) q l cs m r m'
+  passes-one i None m' t = λ E js g f. go E g f
+    where
+      go : (E : Env) {js : List Item} → Agrees l m (held_in E) → FitsAt E (i ∷ js) q l cs → ⊥
+      go E g (turn {n' = k} {s' = s} {cs' = ds} x f) = t E k s ds g x
+  passes-one i (Some p) m' t = record {
+    placed = t.placed;
+    forth = λ E js g f. go E g f;
+    back = λ E js g f. let x = t.back E g in (x.0, turn x.1 f);
+    possible = t.possible;
   }
     where
-      same : claims l preds from to n 0 ≡ claims l preds from to (n - 0) 0
-      same = ap (λ (k : ℕ). claims l preds from to k 0) (omega arith)
+      go : (E : Env) {js : List Item} → Agrees l m (held_in E) → FitsAt E (i ∷ js) q l cs → Agrees l m' (held_in E) × FitsAt E js p l cs
+      go E g (turn {n' = k} {s' = s} {cs' = ds} x f) = let y = t.forth E k s ds g x in (y.0, fits-as y.1 y.2 y.3 f)
 
-      free : (H : ℕ → Held) → Agrees l (replicate 64 0) H
-      free H = record { size = length-replicate {A = ℕ} 64 0; slots = λ u p. rw (get_or-replicate {A = ℕ} 64 (u + 32) 0 0 (omega arith)) tt }
+  pub passes-then : (is js : List Item) (p : State) (m' m'' : Bindings) (r : Option State) → Passes is q l cs m (Some p) m' → Passes js p l cs m' r m'' → Passes (is ++ js) q l cs m r m''
+  passes-then is js p m' m'' None a b = λ E ks g f. let x = a.forth E (js ++ ks) g (rw (append_assoc is js ks) at f) in b E ks x.0 x.1
+  passes-then is js p m' m'' (Some o) a b = record {
+    placed = b.placed;
+    forth = λ E ks g f. let x = a.forth E (js ++ ks) g (rw (append_assoc is js ks) at f) in b.forth E ks x.0 x.1;
+    back = λ E ks g f. let y = b.back E ks g f in let x = a.back E (js ++ ks) y.0 y.1 in (x.0, rw (append_assoc is js ks) x.1);
+    possible = λ w. b.possible (a.possible w);
+  }
 
-  module _ (m : List ℕ) (q : State) (i : ℕ) (v : Going is start stop l preds from to n m q i) where
-    module _ (h : i < stop) (k : stop ≤ length is) (b : ℕ) (e : item b ≡ get_or is i (item 0)) (m' : List ℕ) where
-      cons : part is i stop ≡ item b ∷ part is (i + 1) stop
-      cons = part-cons is i stop (item 0) h k ∙ ap (λ (x : Item). x ∷ part is (i + 1) stop) (sym e)
+  -- Where some of the items have no way on, all have none.
+  pub passes-stop : (is js : List Item) (m' m'' : Bindings) → Passes is q l cs m None m' → Passes (is ++ js) q l cs m None m''
+  passes-stop is js m' m'' a = λ E ks g f. a E (js ++ ks) g (rw (append_assoc is js ks) at f)
 
-      pub going-stop : (r : Turn) → r ≡ No → Turns (item b) q l preds from to n m r m' → Whole → ⊥
-      going-stop r w t g = let f = v.forth g.0 g.1 in go f.0 (rw cons at f.1)
+take_more : {A : Type 0} (l : List A) (i : ℕ) (d : A) → i < length l → take (suc i) l ≡ take i l ++ (get_or l i d ∷ [])
+take_more [] i d h = absurd (omega arith)
+take_more (x ∷ l) zero d h = refl
+take_more {A} (x ∷ l) (suc i) d h = ap (λ (t : List A). x ∷ t) (take_more l i d (omega arith))
+
+take-more : {A : Type 0} (l : List A) (i : ℕ) (d : A) → i < length l → take (i + 1) l ≡ take i l ++ (get_or l i d ∷ [])
+take-more l i d h = rw (add-one i) (take_more l i d h)
+
+joined-more : (ls : List (List Item)) (x : List Item) → joined (ls ++ (x ∷ [])) ≡ joined ls ++ x
+unfolding joined
+joined-more [] x = append-nil x
+joined-more (y ∷ ls) x = ap (λ (t : List Item). y ++ t) (joined-more ls x) ∙ sym (append_assoc y (joined ls) x)
+
+joined-split : (ls : List (List Item)) (i : ℕ) → joined ls ≡ joined (take i ls) ++ joined (drop i ls)
+unfolding joined
+joined-split [] zero = refl
+joined-split [] (suc i) = refl
+joined-split (y ∷ ls) zero = refl
+joined-split (y ∷ ls) (suc i) = ap (λ (t : List Item). y ++ t) (joined-split ls i) ∙ sym (append_assoc y (joined (take i ls)) (joined (drop i ls)))
+
+take-rest : {A : Type 0} (l : List A) (i : ℕ) → l ≡ take i l ++ drop i l
+take-rest [] zero = refl
+take-rest [] (suc i) = refl
+take-rest (x ∷ l) zero = refl
+take-rest {A} (x ∷ l) (suc i) = ap (λ (t : List A). x ∷ t) (take-rest l i)
+
+pub take-past : {A : Type 0} (l : List A) (n : ℕ) → length l ≤ n → take n l ≡ l
+take-past [] zero h = refl
+take-past [] (suc n) h = refl
+take-past (x ∷ l) zero h = absurd (omega arith)
+take-past {A} (x ∷ l) (suc n) h = ap (λ (t : List A). x ∷ t) (take-past l n (omega arith))
+
+-- The loop over a line.
+module _ (l : List ℕ) (cs : List Claim) (q : State) (m : Bindings) (line : List Item) (i : ℕ) (p : State) (m' : Bindings) (v : Passes (take i line) q l cs m (Some p) m') (d : Item) (h : i < length line) where
+  line-more : (r : Option State) (m'' : Bindings) → Turns (get_or line i d) p l cs m' r m'' → Passes (take (i + 1) line) q l cs m r m''
+  line-more r m'' t = rw (take-more line i d h) (passes-then l cs q m (take i line) (get_or line i d ∷ []) p m' m'' r v (passes-one l cs p m' (get_or line i d) r m'' t))
+
+  pub line-on : (p' : State) (m'' : Bindings) → Turns (get_or line i d) p l cs m' (Some p') m'' → Passes (take (i + 1) line) q l cs m (Some p') m''
+  line-on p' m'' t = line-more (Some p') m'' t
+
+  pub line-stop : (m'' : Bindings) → Turns (get_or line i d) p l cs m' None m'' → Passes line q l cs m None m''
+  line-stop m'' t = rw (take-rest line (i + 1)) (passes-stop l cs q m (take (i + 1) line) (drop (i + 1) line) m'' m'' (line-more None m'' t))
+
+-- The loop over the lines of a row.
+module _ (l : List ℕ) (cs : List Claim) (q : State) (m : Bindings) (row : List (List Item)) (i : ℕ) (p : State) (m' : Bindings) (v : Passes (joined (take i row)) q l cs m (Some p) m') (d : List Item) (h : i < length row) where
+  row-more : (r : Option State) (m'' : Bindings) → Passes (get_or row i d) p l cs m' r m'' → Passes (joined (take (i + 1) row)) q l cs m r m''
+  row-more r m'' t = rw (take-more row i d h, joined-more (take i row) (get_or row i d)) (passes-then l cs q m (joined (take i row)) (get_or row i d) p m' m'' r v t)
+
+  pub row-on : (p' : State) (m'' : Bindings) → Passes (get_or row i d) p l cs m' (Some p') m'' → Passes (joined (take (i + 1) row)) q l cs m (Some p') m''
+  row-on p' m'' t = row-more (Some p') m'' t
+
+  pub row-stop : (m'' : Bindings) → Passes (get_or row i d) p l cs m' None m'' → Passes (joined row) q l cs m None m''
+  row-stop m'' t = rw (joined-split row (i + 1)) (passes-stop l cs q m (joined (take (i + 1) row)) (joined (drop (i + 1) row)) m'' m'' (row-more None m'' t))
+
+-- Before the first line.
+pub row-first : (l : List ℕ) (cs : List Claim) (q : State) (m : Bindings) → Placed l cs q → Passes (joined []) q l cs m (Some q) m
+unfolding joined
+row-first l cs q m v = passes-none l cs q m v
+
+-- A whole row from the start ----------------------------------------------------------------------------
+
+abbrev pub begin : State
+begin = record { at = 0; end = 0; left = 0; j = 0 }
+
+module _ (l : List ℕ) (cs : List Claim) where
+  pub begin-placed : Placed l cs begin
+  begin-placed = record { ordered = omega arith; within = omega arith; among = omega arith }
+
+  module _ (is : List Item) (m : Bindings) (free : Free m) where
+    whole : (E : Env) → Fits E is 0 [] (spoken l cs) → FitsAt E (is ++ []) begin l cs
+    whole E f = rw (append-nil is) (fits-as refl (sym (part_none l 0)) refl f)
+
+    whole-of : (E : Env) → FitsAt E (is ++ []) begin l cs → Fits E is 0 [] (spoken l cs)
+    whole-of E f = fits-as refl (part_none l 0) refl (rw (append-nil is) at f)
+
+    pub row-none : (m' : Bindings) → Passes is begin l cs m None m' → Matched is (spoken l cs) → ⊥
+    row-none m' v g = v g.0 [] (free l (held_in g.0)) (whole g.0 g.1)
+
+    module _ (m' : Bindings) (q : State) (v : Passes is begin l cs m (Some q) m') where
+      last : (g : Matched is (spoken l cs)) → (part l q.at q.end ≡ []) × (spoken l (drop q.j cs) ≡ [])
+      last g = go ((v.forth g.0 [] (free l (held_in g.0)) (whole g.0 g.1)).1)
         where
-          told : Turns (item b) q l preds from to n m No m'
-          told = subst (λ (x : Turn). Turns (item b) q l preds from to n m x m') w t
+          go : FitsAt g.0 [] q l cs → (part l q.at q.end ≡ []) × (spoken l (drop q.j cs) ≡ [])
+          go (over e c) = (e, c)
 
-          go : Agrees l m (held_in g.0) → Fits g.0 (item b ∷ part is (i + 1) stop) q.left (part l q.at q.end) (claims l preds from to (n - q.j) q.j) → ⊥
-          go a (turn {n' = k} {s' = s} {cs' = cs} x f) = told g.0 k s cs a x
+      pub row-unread : (q.at ≡ q.end → ⊥) → Matched is (spoken l cs) → ⊥
+      row-unread d g = d (ended l cs q v.placed (last g).0)
 
-      pub going_on : (r : Turn) (p : State) → r ≡ To p → Turns (item b) q l preds from to n m r m' → Going is start stop l preds from to n m' p (i + 1)
-      going_on r p w t = record {
-        placed = told.placed;
-        low = omega (arith, v.low);
-        high = omega arith;
-        some = told.some v.some;
-        forth = λ E f. let x = v.forth E f in go E x.0 (rw cons at x.1);
-        back = λ E g f. let x = told.back E g in v.back E x.0 (rw cons (turn x.1 f));
-      }
+      pub row-read : q.at ≡ q.end → Decides (eqb q.j (length cs)) (Matched is (spoken l cs))
+      row-read d = go (eqb q.j (length cs)) refl
         where
-          told : Turns (item b) q l preds from to n m (To p) m'
-          told = subst (λ (x : Turn). Turns (item b) q l preds from to n m x m') w t
-
-          go : (E : Env) → Agrees l m (held_in E) → Fits E (item b ∷ part is (i + 1) stop) q.left (part l q.at q.end) (claims l preds from to (n - q.j) q.j)
-              → Agrees l m' (held_in E) × Fits E (part is (i + 1) stop) p.left (part l p.at p.end) (claims l preds from to (n - p.j) p.j)
-          go E a (turn {n' = k} {s' = s} {cs' = cs} x f) = let y = told.forth E k s cs a x in (y.0, fits-as y.1 y.2 y.3 f)
-
-    module _ (h : stop ≤ i) where
-      nil : part is i stop ≡ []
-      nil = let e : i ≡ stop = omega (arith, v.high) in ap (λ (k : ℕ). part is k stop) e ∙ part_none is stop
-
-      last : (E : Env) → Fits E [] q.left (part l q.at q.end) (claims l preds from to (n - q.j) q.j) → (part l q.at q.end ≡ []) × (claims l preds from to (n - q.j) q.j ≡ [])
-      last E (over e c) = (e, c)
-
-      pub going_more : (q.at ≡ q.end → ⊥) → Whole → ⊥
-      going_more d g = let f = v.forth g.0 g.1 in d (ended l preds from to n q v.placed (last g.0 (rw nil at f.1)).0)
-
-      pub going-all : q.at ≡ q.end → Decides (eqb q.j n) Whole
-      going-all d = go (eqb q.j n) refl
-        where
-          go : (r : Bool) → eqb q.j n ≡ r → Decides r Whole
-          go true e = (
-            v.some.0,
-            v.back v.some.0 v.some.1 (rw nil (over (ap (λ (a : ℕ). part l a q.end) d ∙ part_none l q.end) (claims-over l preds from to n q.j (omega (arith, eqb-true q.j n e))))),
-          )
-          go false e = λ g. let f = v.forth g.0 g.1 in few (last g.0 (rw nil at f.1)).1
-            where
-              few : claims l preds from to (n - q.j) q.j ≡ [] → ⊥
-              few c =
-                  let d : q.j ≡ n → ⊥ = λ x. let z : ◌≡◌ {A = ℕ} 0 1 = cc (eq-eqb q.j n x) in omega arith in
-                  none-some (sym c ∙ claims-next l preds from to n q.j (omega (arith, v.placed.among)))
+          go : (r : Bool) → eqb q.j (length cs) ≡ r → Decides r (Matched is (spoken l cs))
+          go true e =
+              let w = v.possible (blank, free l (held_in blank)) in
+              (w.0, whole-of w.0 (v.back w.0 [] w.1 (over (ap (λ (a : ℕ). part l a q.end) d ∙ part_none l q.end) (spoken-over l cs q.j (omega (arith, eqb-true q.j (length cs) e))))).1)
+          go false e = λ g.
+              let n : q.j ≡ length cs → ⊥ = λ x. let z : ◌≡◌ {A = ℕ} 0 1 = cc (eq-eqb q.j (length cs) x) in omega arith in
+              let c = get_or cs q.j (record { predicate = 0; from = 0; to = 0 }) in
+              none-some (sym (last g).1 ∙ spoken-next l cs q.j (record { predicate = 0; from = 0; to = 0 }) (omega (arith, v.placed.among)))

@@ -1,16 +1,26 @@
-// Whether a judgement follows from others by a rule: one pass over a row of tokens, with a cursor in the operands of a step and of its references, all in one ledger.
+// Whether a judgement follows from others by a rule: one pass over the items of a row, with a cursor in the operands of a step and of its references, all in one ledger.
 #![tactic(auto)]
 
 mod reach;
 mod slots;
 mod tokens;
 
-ghost use Rattle.std.specs.Prelude.{◌+◌, ◌≤◌};
-ghost use Rattle.calculus.proofs.Rows.{rows};
-ghost use Rattle.rules.specs.Standing.{part, Lies, Decides, Ruled};
-ghost use Rattle.rows.specs.Items.{item, claim};
-ghost use Rattle.rules.specs.Matching.{claims, Matched, Some, Placed, Turns, Begins};
-ghost use Rattle.rows.specs.Flattening.{row_items, Tabled};
+ghost use Rattle.std.specs.Prelude.{◌≤◌, length, get_or, []};
+ghost use Rattle.rows.specs.Items.{FitItem, AllFit, RowFits};
+ghost use Rattle.rows.specs.Flattening.{joined};
+ghost use Rattle.rules.specs.Standing.{Lies, Decides, Ruled};
+ghost use Rattle.rules.specs.Matching.{spoken, Matched, Possible, Placed, Turns, Begins, Passes};
+
+use rows::Item;
+use slots::Bindings;
+
+// Where a judgement stands: the number of its predicate, and the range of its operands.
+#[derive(Clone, Copy)]
+pub struct Claim {
+    pub predicate: usize,
+    pub from: usize,
+    pub to: usize,
+}
 
 // Where the cursor stands: at `at` in the operands of a judgement that end at `end`; j judgements have begun, `left` faces of a context are to come.
 #[derive(Clone, Copy)]
@@ -21,134 +31,87 @@ struct State {
     j: usize,
 }
 
-#[derive(Clone, Copy)]
-enum Turn {
-    To(State),
-    No,
-}
-
 // The next judgement, by its predicate p.
-fn next_judgement(
-    l: &[u8],
-    p: usize,
-    q: State,
-    preds: &[usize; 4],
-    from: &[usize; 4],
-    to: &[usize; 4],
-    n: usize,
-) -> Turn
-    requires { Placed l.now n q × Lies l.now from.now to.now n }
-    ensures { Begins (claim p) q l.now preds.now from.now to.now n result }
+fn next_judgement(l: &[u8], p: usize, q: State, claims: &[Claim]) -> Option<State>
+    requires { Placed l.now claims.now q × Lies l.now claims.now }
+    ensures { Begins (Item.Claim p) q l.now claims.now result }
 {
-    let at = q.at;
-    let end = q.end;
-    let j = q.j;
-    if at != end {
-        return Turn::No;
+    if q.at != q.end {
+        return None;
     }
-    if n <= j {
-        return Turn::No;
+    if claims.len() <= q.j {
+        return None;
     }
-    if preds[j] != p {
-        return Turn::No;
+    let c = claims[q.j];
+    let other = c.predicate != p;
+    if other {
+        return None;
     }
-    let a = from[j];
-    let e = to[j];
-    Turn::To(State {
-        at: a,
-        end: e,
+    Some(State {
+        at: c.from,
+        end: c.to,
         left: 0,
-        j: j + 1,
+        j: q.j + 1,
     })
 }
 
-// One byte of a row: the predicate of the next judgement, or a token in the present one.
-fn one_byte(
-    l: &[u8],
-    env: &mut [usize; 64],
-    b: usize,
-    q: State,
-    preds: &[usize; 4],
-    from: &[usize; 4],
-    to: &[usize; 4],
-    n: usize,
-) -> Turn
-    requires { Some l.now env.old × Placed l.now n q × Lies l.now from.now to.now n }
-    ensures { Turns (item b) q l.now preds.now from.now to.now n env.old result env.new }
+// One item of a row: the predicate of the next judgement, or a token in the present one.
+fn one_item(l: &[u8], env: &mut Bindings, item: Item, q: State, claims: &[Claim]) -> Option<State>
+    requires { FitItem item × Possible l.now env.old × Placed l.now claims.now q × Lies l.now claims.now }
+    ensures { Turns item q l.now claims.now env.old result env.new }
 {
-    if 96 <= b {
-        return next_judgement(l, b - 96, q, preds, from, to, n);
-    }
-    let at = q.at;
-    let end = q.end;
-    let left = q.left;
-    let j = q.j;
-    match tokens::one_token(l, env, b, at, end, left) {
-        tokens::Next::Move(x, y) => Turn::To(State {
-            at: x,
-            end: end,
-            left: y,
-            j: j,
-        }),
-        tokens::Next::Stop => Turn::No,
+    match item {
+        Item::Claim(p) => next_judgement(l, usize::from(p), q, claims),
+        Item::Inside(t) => tokens::one_token(l, env, t, q),
     }
 }
 
-// Whether the n judgements at (preds, from, to), the conclusion first, are an instance of the row from `start` to `stop`.
-fn match_row(
+// The items of a line.
+fn one_line(
     l: &[u8],
-    table: &[u8; 1540],
-    start: usize,
-    stop: usize,
-    preds: &[usize; 4],
-    from: &[usize; 4],
-    to: &[usize; 4],
-    n: usize,
-) -> bool
-    requires { Lies l.now from.now to.now n × (start ≤ stop) × (stop ≤ 1540) × Tabled table.now }
-    ensures { Decides result (Matched (part (row_items rows) start stop) (claims l.now preds.now from.now to.now n 0)) }
+    env: &mut Bindings,
+    line: &[Item; 10],
+    q: State,
+    claims: &[Claim],
+) -> Option<State>
+    requires { AllFit line.now × Possible l.now env.old × Placed l.now claims.now q × Lies l.now claims.now }
+    ensures { Passes line.now q l.now claims.now env.old result env.new }
 {
-    let mut env: [usize; 64] = [0; 64];
+    let mut p = q;
+    for item in line {
+        p = one_item(l, env, *item, p, claims)?;
+    }
+    Some(p)
+}
+
+// Whether the judgements of the claims, the conclusion first, are an instance of the row.
+fn match_row(l: &[u8], row: &[[Item; 10]], claims: &[Claim]) -> bool
+    requires { Lies l.now claims.now × RowFits row.now }
+    ensures { Decides result (Matched (joined row.now) (spoken l.now claims.now)) }
+{
+    let mut env = Bindings::none();
     let mut q = State {
         at: 0,
         end: 0,
         left: 0,
         j: 0,
     };
-    let mut i = start;
-    while i < stop {
-        let b = rows::wide(table[i]);
-        if b == 81 {
-            i += 1;
-            continue;
-        }
-        let Turn::To(p) = one_byte(l, &mut env, b, q, preds, from, to, n) else {
+    for line in row {
+        let Some(p) = one_line(l, &mut env, line, q, claims) else {
             return false;
         };
         q = p;
-        i += 1;
     }
-    let at = q.at;
-    let end = q.end;
-    let j = q.j;
-    if at != end {
+    if q.at != q.end {
         return false;
     }
-    j == n
+    q.j == claims.len()
 }
 
-// Whether the judgement in the first range follows from those in the n others, in order, by the rule of the kind. The table is that of rows.
-pub fn follows(
-    l: &[u8],
-    table: &[u8; 1540],
-    kind: usize,
-    preds: &[usize; 4],
-    from: &[usize; 4],
-    to: &[usize; 4],
-    n: usize,
-) -> bool
-    requires { Lies l.now from.now to.now (n + 1) × Tabled table.now }
-    ensures { Ruled l.now kind preds.now from.now to.now n result }
+// Whether the judgement of the first claim follows from those of the others, in order, by the rule of the kind.
+pub fn follows(l: &[u8], kind: usize, claims: &[Claim]) -> bool
+    requires { Lies l.now claims.now }
+    ensures { Ruled l.now kind claims.now result }
 {
     if kind == 0 {
         return false;
@@ -156,7 +119,5 @@ pub fn follows(
     if 75 < kind {
         return false;
     }
-    let start = rows::row_start(kind - 1);
-    let stop = rows::row_start(kind);
-    match_row(l, table, start, stop, preds, from, to, n + 1)
+    match_row(l, rows::row(kind), claims)
 }

@@ -1,122 +1,90 @@
-// One token of a row at the cursor.
+// One token of a row at the cursor: the cursor behind it, if there is a way on.
 ghost use Rattle.std.specs.Prelude.{◌≤◌, ◌<◌, length};
-ghost use Rattle.rows.specs.Items.{byte, number, slot, front, token};
-ghost use Rattle.rules.specs.Matching.{Some, Moves, MovesOnly};
+ghost use Rattle.rows.specs.Items.{Fit};
+ghost use Rattle.rules.specs.Matching.{Possible, Moves, MovesOnly};
 
-use crate::{reach, slots};
-
-// The cursor behind the token, and how many faces of a context are left; or no way on.
-#[derive(Clone, Copy)]
-pub(crate) enum Next {
-    Move(usize, usize),
-    Stop,
-}
+use crate::slots::Bindings;
+use crate::{State, reach};
+use rows::Token;
 
 // The bytes of slot u.
-fn part_token(l: &[u8], env: &mut [usize; 64], u: usize, at: usize, end: usize, left: usize) -> Next
-    requires { (u < 24) × (at ≤ end) × (end ≤ length l.now) × Some l.now env.old }
-    ensures { Moves (slot u) at end left l.now env.old result env.new }
+fn part_token(l: &[u8], env: &mut Bindings, u: usize, q: State) -> Option<State>
+    requires { (u < 24) × (q.at ≤ q.end) × (q.end ≤ length l.now) × Possible l.now env.old }
+    ensures { Moves (Token.Slot u) q l.now env.old result env.new }
 {
-    match reach::end_of(l, u, left, at, end) {
-        reach::Ending::At(e) => {
-            if slots::bind_part(l, env, u, at, e) {
-                return Next::Move(e, left);
-            }
-            Next::Stop
-        }
-        reach::Ending::Nowhere => Next::Stop,
+    let e = reach::end_of(l, u, q)?;
+    if env.bind_part(l, u, q.at, e) {
+        return Some(State { at: e, ..q });
     }
+    None
 }
 
 // A number that is `less` above variable v.
-fn number_token(
-    l: &[u8],
-    env: &mut [usize; 64],
-    less: usize,
-    v: usize,
-    at: usize,
-    end: usize,
-    left: usize,
-) -> Next
-    requires { (v < 8) × (at ≤ end) × (end ≤ length l.now) }
-    ensures { Moves (number less v) at end left l.now env.old result env.new }
+fn number_token(l: &[u8], env: &mut Bindings, less: usize, v: usize, q: State) -> Option<State>
+    requires { (v < 8) × (q.at ≤ q.end) × (q.end ≤ length l.now) }
+    ensures { Moves (Token.Number less v) q l.now env.old result env.new }
 {
-    if end - at < formula::DIM {
-        return Next::Stop;
+    if q.end - q.at < formula::DIM {
+        return None;
     }
-    let n = formula::dim_at(l, at);
+    let n = formula::dim_at(l, q.at);
     if n < less {
-        return Next::Stop;
+        return None;
     }
-    if slots::bind_number(env, v, n - less) {
-        return Next::Move(at + formula::DIM, left);
+    if env.bind_number(v, n - less) {
+        return Some(State {
+            at: q.at + formula::DIM,
+            ..q
+        });
     }
-    Next::Stop
+    None
 }
 
 // A byte that must stand there.
-fn byte_token(l: &[u8], b: usize, at: usize, end: usize, left: usize) -> Next
-    requires { (at ≤ end) × (end ≤ length l.now) }
-    ensures { MovesOnly (byte b) at end left l.now result }
+fn byte_token(l: &[u8], b: u8, q: State) -> Option<State>
+    requires { (q.at ≤ q.end) × (q.end ≤ length l.now) }
+    ensures { MovesOnly (Token.Byte b) q l.now result }
 {
-    if end <= at {
-        return Next::Stop;
+    if q.end <= q.at {
+        return None;
     }
-    let x = rows::wide(l[at]);
-    if x != b {
-        return Next::Stop;
+    if l[q.at] != b {
+        return None;
     }
-    Next::Move(at + 1, left)
+    Some(State { at: q.at + 1, ..q })
 }
 
 // A context's count, of which k faces stand in front.
-fn count_token(l: &[u8], k: usize, at: usize, end: usize, left: usize) -> Next
-    requires { (at ≤ end) × (end ≤ length l.now) }
-    ensures { MovesOnly (front k) at end left l.now result }
+fn count_token(l: &[u8], k: usize, q: State) -> Option<State>
+    requires { (q.at ≤ q.end) × (q.end ≤ length l.now) }
+    ensures { MovesOnly (Token.Front k) q l.now result }
 {
-    if end - at < 2 {
-        return Next::Stop;
+    if q.end - q.at < 2 {
+        return None;
     }
-    let x = rows::wide(l[at]);
-    let y = rows::wide(l[at + 1]);
+    let x = usize::from(l[q.at]);
+    let y = usize::from(l[q.at + 1]);
     let c = x + 256 * y;
     if c < k {
-        return Next::Stop;
+        return None;
     }
-    Next::Move(at + 2, c - k)
+    Some(State {
+        at: q.at + 2,
+        left: c - k,
+        ..q
+    })
 }
 
-pub(crate) fn one_token(
-    l: &[u8],
-    env: &mut [usize; 64],
-    b: usize,
-    at: usize,
-    end: usize,
-    left: usize,
-) -> Next
-    requires { (at ≤ end) × (end ≤ length l.now) × Some l.now env.old }
-    ensures { Moves (token b) at end left l.now env.old result env.new }
+pub(crate) fn one_token(l: &[u8], env: &mut Bindings, t: Token, q: State) -> Option<State>
+    requires { Fit t × (q.at ≤ q.end) × (q.end ≤ length l.now) × Possible l.now env.old }
+    ensures { Moves t q l.now env.old result env.new }
 {
-    if 80 < b {
-        return Next::Move(at, left);
+    match t {
+        Token::Byte(b) => byte_token(l, b, q),
+        Token::Number(less, v) => { number_token(l, env, usize::from(less), usize::from(v), q) }
+        Token::Slot(u) => part_token(l, env, usize::from(u), q),
+        Token::Front(k) => count_token(l, usize::from(k), q),
+        Token::Done if q.left != 0 => None,
+        Token::Done | Token::Pad => Some(q),
     }
-    if b < 32 {
-        return byte_token(l, b, at, end, left);
-    }
-    if b < 40 {
-        return number_token(l, env, 0, b - 32, at, end, left);
-    }
-    if b < 48 {
-        return number_token(l, env, 1, b - 40, at, end, left);
-    }
-    if b < 72 {
-        return part_token(l, env, b - 48, at, end, left);
-    }
-    if b < 80 {
-        return count_token(l, b - 72, at, end, left);
-    }
-    if left != 0 {
-        return Next::Stop;
-    }
-    Next::Move(at, left)
 }

@@ -2,6 +2,7 @@
 use Prim.Native.Nat.{ℕ, suc, ◌+◌}
 use mathlib.Core.Path.{◌≡◌, refl, sym, ap, ◌∙◌, subst}
 use mathlib.Core.Bool.{true, false, true≢false, false≢true}
+use native.Mathlib.Omega.{arith}
 use mathlib.Core.List.{List, [], ◌∷◌, ◌++◌}
 use lib.ListN.{length, get_or, take, drop}
 use Rattle.formula.specs.declared.Sort.TheVariants.{Faces}
@@ -13,9 +14,10 @@ use Rattle.calculus.specs.Search.{Move, split_of, try_right, move}
 use Rattle.calculus.specs.Record.{operand_bytes}
 use Rattle.calculus.specs.Emit.{Program, ◌>>=◌, attempt}
 use Rattle.calculus.specs.Calls.{emit_take, emit_move, emit_cover}
-use Rattle.steps.specs.declared.Ran.{Ran}
-use Rattle.steps.specs.declared.Ran.TheVariants.{Done, NotBelow, NotImplied, Full}
-use Rattle.steps.specs.Running.{Book, done_by, step_by, Runs, Emits}
+use Rattle.std.specs.Prelude.{Err}
+use Rattle.steps.specs.declared.Stop.{Stop}
+use Rattle.steps.specs.declared.Stop.TheVariants.{NotBelow, NotImplied, Full}
+use Rattle.steps.specs.Running.{Ran, Book, done_by, step_by, Runs, Emits}
 use Rattle.steps.specs.Trees.{Is}
 use Rattle.steps.proofs.RunLaws.{runs-below, attempt-done, attempt-failed, attempt-full, Failed, emits-by}
 use Rattle.steps.proofs.TreeLaws.{tree-of}
@@ -122,14 +124,15 @@ module _ (G : List Face) (g : Face) where
   or-ask : (p : Parts for g) → emit_move emit_cover G g (try_right g) ≡ attempt (emit_cover G p.left) (after 28 (cover G g)) (emit_cover G p.right >>= after 29 (cover G g))
   or-ask p = subst (λ (z : Face). emit_move emit_cover G z (try_right z) ≡ attempt (emit_cover G p.left) (after 28 (cover G z)) (emit_cover G p.right >>= after 29 (cover G z))) (sym p.whole) refl
 
-full_is : (r : Ran) → full_by r ≡ true → r ≡ Full
-full_is (Done n) e = absurd (false≢true e)
+full_is : (e : Stop) → full_by e ≡ true → e ≡ Full
 full_is NotBelow e = absurd (false≢true e)
 full_is NotImplied e = absurd (false≢true e)
 full_is Full e = refl
 
-not_full : {r : Ran} → done_by r ≡ false → full_by r ≡ false → Failed r
-not_full d e = (d, λ f. true≢false (sym (ap full_by f) ∙ e))
+not_full : (e : Stop) → full_by e ≡ false → Failed (Err e)
+not_full NotBelow f = (refl, λ h. absurd (let z : ◌≡◌ {A = ℕ} 0 1 = cc in omega arith))
+not_full NotImplied f = (refl, λ h. absurd (let z : ◌≡◌ {A = ℕ} 0 1 = cc in omega arith))
+not_full Full f = absurd (true≢false f)
 
 module _ {G : List Face} {g : Face} {n : ℕ} {b y m : List ℕ} (w : Are G n b) (a : Is Faces g y) (q : m ≡ part_at Faces y 1) {l l₁ : Book} {r : Ran} (h : Runs l (emit_cover G (tree_of Faces m)) r l₁) where
   module _ (p : Parts fand g) where
@@ -174,22 +177,25 @@ module _ {G : List Face} {g : Face} {n : ℕ} {b y m : List ℕ} (w : Are G n b)
         let j : Rules.Rule 28 (cover G p.left ∷ []) (cover G g) = subst (λ (z : Face). Rules.Rule 28 (cover G p.left ∷ []) (cover G z)) (sym p.whole) Rules.cover-or-right0 in
         asked (attempt-done (after 28 (cover G g)) second or-first d (emits-by v j (step_by r ∷ []) refl (runs-below or-first d, tt) (cover-limited w a) refl refl))
 
-    pub or-right-full : full_by r ≡ true → Runs l (emit_move emit_cover G g (try_right g)) r l₁
-    or-right-full e =
-        let f = full_is r e in
-        asked (subst (λ (c : Ran). Runs l (attempt (emit_cover G p.left) (after 28 (cover G g)) second) c l₁) (sym f)
-        (attempt-full (after 28 (cover G g)) second (subst (λ (c : Ran). Runs l (emit_cover G p.left) c l₁) f or-first)))
+    pub or-right-full : {e : Stop} → r ≡ Err e → full_by e ≡ true → Runs l (emit_move emit_cover G g (try_right g)) (Err e) l₁
+    or-right-full {e} i f =
+        let z : r ≡ Err Full = i ∙ ap Err (full_is e f) in
+        subst (λ (c : Ran). Runs l (emit_move emit_cover G g (try_right g)) c l₁) (sym (ap Err (full_is e f)))
+        (asked (attempt-full (after 28 (cover G g)) second (subst (λ (c : Ran). Runs l (emit_cover G p.left) c l₁) z or-first)))
 
-    module _ (d : done_by r ≡ false) (e : full_by r ≡ false) {l₂ : Book} {s : Ran} (h₂ : Runs l₁ (emit_cover G (tree_of Faces (tail (1 + length m) y))) s l₂) where
+    module _ {o : Stop} (d : r ≡ Err o) (e : full_by o ≡ false) {l₂ : Book} {s : Ran} (h₂ : Runs l₁ (emit_cover G (tree_of Faces (tail (1 + length m) y))) s l₂) where
+      failed : Failed r
+      failed = subst Failed (sym d) (not_full o e)
+
       or-second : Runs l₁ (emit_cover G p.right) s l₂
       or-second = on-goal G (tree-of either.second) h₂
 
       pub or-right-stop : done_by s ≡ false → Runs l (emit_move emit_cover G g (try_right g)) s l₂
       unfolding second
-      or-right-stop f = asked (attempt-failed (after 28 (cover G g)) second or-first (not_full d e) (after_stop {kind = 29} {j = cover G g} refl or-second f))
+      or-right-stop f = asked (attempt-failed (after 28 (cover G g)) second or-first failed (after_stop {kind = 29} {j = cover G g} refl or-second f))
 
       pub or-right-up-2 : {l₃ : Book} {c : Ran} {u : ℕ} → done_by s ≡ true → u ≡ step_by s → Emits l₂ 29 (u ∷ 0 ∷ 0 ∷ []) (operand_bytes (cover G g)) c l₃ → Runs l (emit_move emit_cover G g (try_right g)) c l₃
       unfolding second
       or-right-up-2 f u t =
           let j : Rules.Rule 29 (cover G p.right ∷ []) (cover G g) = subst (λ (z : Face). Rules.Rule 29 (cover G p.right ∷ []) (cover G z)) (sym p.whole) Rules.cover-or-right1 in
-          asked (attempt-failed (after 28 (cover G g)) second or-first (not_full d e) (after-up {kind = 29} {j = cover G g} refl or-second f u j (cover-limited w a) refl t))
+          asked (attempt-failed (after 28 (cover G g)) second or-first failed (after-up {kind = 29} {j = cover G g} refl or-second f u j (cover-limited w a) refl t))

@@ -13,7 +13,7 @@ use Rattle.calculus.specs.Search.{nodes_context}
 use Rattle.calculus.specs.Record.{faces_bytes, bound_context}
 use Rattle.steps.specs.Trees.{Is}
 use Rattle.steps.proofs.TreeLaws.{part-front}
-use Rattle.contexts.specs.Contexts.{Are, Context, leave, cut, At}
+use Rattle.contexts.specs.Contexts.{Are, Sound, leave, cut, At}
 use Rattle.search.specs.Turns.{Parts, Split}
 use Rattle.contexts.proofs.ContextLaws.{context-short, tail, tail-append}
 use Rattle.contexts.proofs.TakeLaws.{less}
@@ -128,5 +128,5 @@ module _ (front g : List ℕ) (place end : ℕ) where
   pub made-length : {z : List ℕ} → z ≡ front ++ cut place end g → place ≤ end → end ≤ length g → length z ≡ length front + place + (length g - end)
   made-length e p q = ap length e ∙ length-append front (cut place end g) ∙ omega (arith, cut-length front g place end p q)
 
-  pub made-context : {z : List ℕ} {n : ℕ} → z ≡ front ++ cut place end g → Context n (front ++ cut place end g) → Context n z
-  made-context {n = n} e w = subst (Context n) (sym e) w
+  pub made-context : {z : List ℕ} {n : ℕ} → z ≡ front ++ cut place end g → Sound n (front ++ cut place end g) → Sound n z
+  made-context {n = n} e w = subst (Sound n) (sym e) w

@@ -1,5 +1,5 @@
 -- The next turn, by the answers of the tests.
-use Prim.Native.Nat.{ℕ, zero, suc, ◌≤◌, ◌<◌}
+use Prim.Native.Nat.{ℕ, suc, ◌≤◌, ◌<◌}
 use native.Mathlib.Omega.{arith}
 use mathlib.Core.Path.{◌≡◌, refl, sym, ap, ◌∙◌, subst}
 use mathlib.Core.Bool.{Bool, true, false, false≢true}
@@ -14,10 +14,9 @@ use Rattle.calculus.specs.Record.{faces_bytes, bound_context}
 use Rattle.calculus.proofs.Searching.{Moves, is-clash, Refuted, move-view}
 use Rattle.steps.specs.Trees.{Is}
 use Rattle.steps.proofs.TreeLaws.{tree-of}
-use Rattle.contexts.specs.declared.moves.Clash.{Clash}
-use Rattle.contexts.specs.declared.moves.Clash.TheVariants.{Of, Free}
-use Rattle.contexts.specs.Contexts.{Are}
-use Rattle.contexts.specs.Moves.{clash_by, compound, split_at, FirstCompound}
+use Rattle.std.specs.Prelude.{Option, None, Some}
+use Rattle.contexts.specs.Contexts.{Are, At}
+use Rattle.contexts.specs.Moves.{clash_by, compound, split_at, Compound, FirstCompound}
 use Rattle.search.specs.declared.turns.Turn.{Turn}
 use Rattle.search.specs.declared.turns.Turn.TheVariants.{Top, Hit, Absurd, Opposed, AndLeft, OrLeft, AndRight, OrRight, Stuck}
 use Rattle.search.specs.Turns.{Parts, Split, Turns, tops, hits, absurds, opposes, splits-and, splits-or, asks_both, asks-either, stays}
@@ -87,41 +86,34 @@ split-else b (at s n) a m e = absurd (false≢true e)
 split-else b (fand x y) a m e = refl
 split-else b (for x y) a m e = refl
 
-past : (G : List Face) (i : ℕ) → length G ≤ i → get_or G i ff ≡ ff
-past [] i h = refl
-past (f ∷ G) zero h = absurd (omega arith)
-past (f ∷ G) (suc i) h = past G i (omega arith)
+module _ {G : List Face} {i n : ℕ} {g : List ℕ} (w : Are G n g) (f : Compound G i) {place : ℕ} {x : List ℕ} (q : Face) (e : place ≡ length (faces_bytes (take i G))) (p : x ≡ part_at Faces g place) where
+  pub compound-at : At G i x place n g
+  compound-at = at_of w (omega (arith, f.inside, w.count)) e p
 
-module _ {G : List Face} {i n : ℕ} {g : List ℕ} (w : Are G n g) (f : FirstCompound G i) where
-  module _ (h : i < n) {place : ℕ} {x : List ℕ} (q : Face) (e : place ≡ length (faces_bytes (take i G))) (p : x ≡ part_at Faces g place) where
-    inside : i < length G
-    inside = omega (arith, w.count)
+  byte : get_or x 0 0 ≡ kind (get_or G i ff)
+  byte = first_byte compound-at.out
 
-    byte : get_or x 0 0 ≡ kind (get_or G i ff)
-    byte = first_byte (at_of w h e p).out
+  left_split : (try_left [] G else try_right q) ≡ split_at [] G i
+  left_split = ap (λ (m : Move). m else try_right q) (f.splits []) ∙ split-else (take i G) (get_or G i ff) (drop (suc i) G) (try_right q) f.there
 
-    left_split : (try_left [] G else try_right q) ≡ split_at [] G i
-    left_split = ap (λ (m : Move). m else try_right q) (f.splits []) ∙ split-else (take i G) (get_or G i ff) (drop (suc i) G) (try_right q) (f.there inside)
+  pub and-left-turn : get_or x 0 0 ≡ 4 → Turns G q (try_left [] G else try_right q) (AndLeft i place)
+  and-left-turn k = splits-and (record { inside = f.inside; begins = e; parts = and-kind (get_or G i ff) (sym byte ∙ k) }) left_split
 
-    pub and-left-turn : get_or x 0 0 ≡ 4 → Turns G q (try_left [] G else try_right q) (AndLeft i place)
-    and-left-turn k = splits-and (record { inside = inside; begins = e; parts = and-kind (get_or G i ff) (sym byte ∙ k) }) left_split
+  pub or-left-turn : (get_or x 0 0 ≡ 4 → ⊥) → Turns G q (try_left [] G else try_right q) (OrLeft i place)
+  or-left-turn k = splits-or (record { inside = f.inside; begins = e; parts = or_else (get_or G i ff) f.there (λ c. k (byte ∙ c)) }) left_split
 
-    pub or-left-turn : (get_or x 0 0 ≡ 4 → ⊥) → Turns G q (try_left [] G else try_right q) (OrLeft i place)
-    or-left-turn k = splits-or (record { inside = inside; begins = e; parts = or_else (get_or G i ff) (f.there inside) (λ c. k (byte ∙ c)) }) left_split
+module _ (G : List Face) (f : FirstCompound G None) {q : Face} {y : List ℕ} (a : Is Faces q y) where
+  right-split : (try_left [] G else try_right q) ≡ try_right q
+  right-split = ap (λ (m : Move). m else try_right q) (f [])
 
-  module _ (h : n ≤ i) {q : Face} {y : List ℕ} (a : Is Faces q y) where
-    right-split : (try_left [] G else try_right q) ≡ try_right q
-    right-split =
-        ap (λ (m : Move). m else try_right q) (f.splits [] ∙ ap (λ (z : Face). split_of (take i G) z (drop (suc i) G)) (past G i (omega (arith, w.count))))
+  pub and-right-turn : get_or y 0 0 ≡ 4 → Turns G q (try_left [] G else try_right q) AndRight
+  and-right-turn k = asks_both (and-kind q (sym (first_byte a) ∙ k)) right-split
 
-    pub and-right-turn : get_or y 0 0 ≡ 4 → Turns G q (try_left [] G else try_right q) AndRight
-    and-right-turn k = asks_both (and-kind q (sym (first_byte a) ∙ k)) right-split
+  pub or-right-turn : get_or y 0 0 ≡ 5 → Turns G q (try_left [] G else try_right q) OrRight
+  or-right-turn k = asks-either (or-kind q (sym (first_byte a) ∙ k)) right-split
 
-    pub or-right-turn : get_or y 0 0 ≡ 5 → Turns G q (try_left [] G else try_right q) OrRight
-    or-right-turn k = asks-either (or-kind q (sym (first_byte a) ∙ k)) right-split
-
-    pub stuck-turn : (get_or y 0 0 ≡ 4 → ⊥) → (get_or y 0 0 ≡ 5 → ⊥) → Turns G q (try_left [] G else try_right q) Stuck
-    stuck-turn k j = stays (right-split ∙ neither q (λ c. k (first_byte a ∙ c)) (λ c. j (first_byte a ∙ c)))
+  pub stuck-turn : (get_or y 0 0 ≡ 4 → ⊥) → (get_or y 0 0 ≡ 5 → ⊥) → Turns G q (try_left [] G else try_right q) Stuck
+  stuck-turn k j = stays (right-split ∙ neither q (λ c. k (first_byte a ∙ c)) (λ c. j (first_byte a ∙ c)))
 
 -- The tries in their order -----------------------------------------------------------------------
 
@@ -168,16 +160,16 @@ module _ {G : List Face} {n : ℕ} {g : List ℕ} {q : Face} {y : List ℕ} (w :
       absurd-turn t = let u : has ff G ≡ true = lies ∙ t in let v = open-top in let x = miss in absurds (rw (v, x, u))
 
       module _ (t : s ≡ false) where
-        rest : (c : Clash) → clash_by c ≡ try_clash G G → move G q ≡ (clash_by c else try_left [] G else try_right q)
+        rest : (c : Option ℕ) → clash_by c ≡ try_clash G G → move G q ≡ (clash_by c else try_left [] G else try_right q)
         unfolding move
         rest c h₃ = let u : has ff G ≡ false = lies ∙ t in let v = open-top in let x = miss in let i = sym h₃ in rw (v, x, u, i)
 
-        pub opposed-turn : {c : Clash} {k : ℕ} → clash_by c ≡ try_clash G G → c ≡ Of k → Turns G q (move G q) (Opposed k)
-        opposed-turn {c} {k} h₃ i = let m : move G q ≡ by-clash k = rest c h₃ ∙ ap (λ (x : Clash). clash_by x else try_left [] G else try_right q) i in opposes (clash-low q w m) m
+        pub opposed-turn : {c : Option ℕ} {k : ℕ} → clash_by c ≡ try_clash G G → c ≡ Some k → Turns G q (move G q) (Opposed k)
+        opposed-turn {c} {k} h₃ i = let m : move G q ≡ by-clash k = rest c h₃ ∙ ap (λ (x : Option ℕ). clash_by x else try_left [] G else try_right q) i in opposes (clash-low q w m) m
 
-        pub split-turn : {c : Clash} {k : Turn} → clash_by c ≡ try_clash G G → c ≡ Free → Turns G q (try_left [] G else try_right q) k → Turns G q (move G q) k
+        pub split-turn : {c : Option ℕ} {k : Turn} → clash_by c ≡ try_clash G G → c ≡ None → Turns G q (try_left [] G else try_right q) k → Turns G q (move G q) k
         split-turn {c} {k} h₃ i v =
-            subst (λ (m : Move). Turns G q m k) (sym (rest c h₃ ∙ ap (λ (x : Clash). clash_by x else try_left [] G else try_right q) i)) v
+            subst (λ (m : Move). Turns G q m k) (sym (rest c h₃ ∙ ap (λ (x : Option ℕ). clash_by x else try_left [] G else try_right q) i)) v
 
 -- What a turn says --------------------------------------------------------------------------------
 

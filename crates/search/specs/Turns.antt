@@ -2,27 +2,18 @@
 use Rattle.std.specs.Prelude.{◌≡◌, Bool, true, false, List, [], ℕ, ◌<◌, length, get_or, take}
 use Rattle.formula.specs.Formula.{Face, ff, ft, fand, for}
 use Rattle.calculus.specs.Search.{Move, by-top, by-hit, by-absurd, by-clash, stuck, try_right}
-use Rattle.calculus.specs.Judgement.{Step}
 use Rattle.calculus.specs.Record.{faces_bytes}
-use Rattle.index.specs.Index.{Finished}
-use Rattle.steps.specs.declared.Ran.{Ran}
-use Rattle.steps.specs.declared.Ran.TheVariants.{Done, NotBelow, NotImplied, Full}
-use Rattle.steps.specs.Running.{done_by, step_by}
+use Rattle.steps.specs.declared.Stop.{Stop}
+use Rattle.steps.specs.declared.Stop.TheVariants.{NotBelow, NotImplied, Full}
 use Rattle.contexts.specs.Moves.{split_at}
 use Rattle.search.specs.declared.turns.Turn.{Turn}
 use Rattle.search.specs.declared.turns.Turn.TheVariants.{Top, Hit, Absurd, Opposed, AndLeft, OrLeft, AndRight, OrRight, Stuck}
 
--- Was a run out of room?
-abbrev pub full_by : Ran → Bool
-full_by (Done n) = false
+-- Did a run stop since it was out of room?
+abbrev pub full_by : Stop → Bool
 full_by NotBelow = false
 full_by NotImplied = false
 full_by Full = true
-
--- Where the run is done, the search for its step is finished.
-pub record Ended (L : List Step) (r : Ran) : Type 0 where
-  pub below : done_by r ≡ true → step_by r < length L
-  pub finished : done_by r ≡ true → Finished L (step_by r)
 
 -- The face is v of two parts; v is fand or for.
 pub record Parts (v : Face → Face → Face) (f : Face) : Type 0 where

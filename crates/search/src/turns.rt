@@ -4,10 +4,10 @@ ghost use Rattle.formula.specs.declared.Sort.TheVariants.{Faces};
 ghost use Rattle.calculus.specs.Search.{◌else◌, try_left, try_right, move};
 ghost use Rattle.formula.specs.Answers.{tree_of};
 ghost use Rattle.steps.specs.Trees.{Known};
-ghost use Rattle.contexts.specs.Contexts.{context_of, Context};
+ghost use Rattle.contexts.specs.Faces.{faces_of};
 ghost use Rattle.search.specs.Turns.{Turns};
 
-use contexts::Clash;
+use contexts::Context;
 use formula::Sort;
 
 // A move: a clash with its dimension, a left move with the number of the compound and where it begins.
@@ -25,14 +25,13 @@ pub(crate) enum Turn {
 }
 
 // The split of the first compound, and where there is none that of the goal.
-fn split(n: usize, g: &[u8], goal: &[u8]) -> Turn
-    requires { Context n g.now × Known Faces goal.now }
-    ensures { Turns (context_of n g.now) (tree_of Faces goal.now) (try_left [] (context_of n g.now) else try_right (tree_of Faces goal.now)) result }
+fn split(g: Context, goal: &[u8]) -> Turn
+    requires { Known Faces goal.now }
+    ensures { Turns (faces_of g.entry) (tree_of Faces goal.now) (try_left [] (faces_of g.entry) else try_right (tree_of Faces goal.now)) result }
 {
-    let i = contexts::first_compound(n, g);
-    if i < n {
-        let at = contexts::offset(i, n, g);
-        let x = formula::formula_at(Sort::Faces, g, at);
+    if let Some(i) = contexts::first_compound(g) {
+        let at = contexts::offset(i, g);
+        let x = formula::formula_at(Sort::Faces, g.faces, at);
         if x[0] == 4 {
             return Turn::AndLeft(i, at);
         }
@@ -48,23 +47,23 @@ fn split(n: usize, g: &[u8], goal: &[u8]) -> Turn
 }
 
 // The tries in their order: top, hit, absurd, clash, and the splits.
-pub(crate) fn next_turn(n: usize, g: &[u8], goal: &[u8]) -> Turn
-    requires { Context n g.now × Known Faces goal.now }
-    ensures { Turns (context_of n g.now) (tree_of Faces goal.now) (move (context_of n g.now) (tree_of Faces goal.now)) result }
+pub(crate) fn next_turn(g: Context, goal: &[u8]) -> Turn
+    requires { Known Faces goal.now }
+    ensures { Turns (faces_of g.entry) (tree_of Faces goal.now) (move (faces_of g.entry) (tree_of Faces goal.now)) result }
 {
     let top = goal[0] == 1;
     if top {
         return Turn::Top;
     }
-    if contexts::has(goal, n, g) {
+    if contexts::has(goal, g) {
         return Turn::Hit;
     }
     let ff = [0u8; 1];
-    if contexts::has(&ff, n, g) {
+    if contexts::has(&ff, g) {
         return Turn::Absurd;
     }
-    match contexts::first_clash(n, g) {
-        Clash::Of(k) => Turn::Opposed(k),
-        Clash::Free => split(n, g, goal),
+    match contexts::first_clash(g) {
+        Some(k) => Turn::Opposed(k),
+        None => split(g, goal),
     }
 }

@@ -1,11 +1,9 @@
-use Prim.Native.Nat.{◌-◌}
-use Rattle.calculus.proofs.Rows.{rows}
-use Rattle.rows.specs.Flattening.{row_items}
-use Rattle.rules.proofs.Turning.{Going}
+use lib.ListN.{take}
+use Rattle.std.specs.Prelude.{Some}
+use Rattle.rows.specs.Flattening.{joined}
+use Rattle.rules.specs.Matching.{Possible, Passes}
+use Rattle.rules.proofs.Turning.{begin}
 use Rattle.rules.proofs.match_row.Given as goal
 
-abbrev pub invariant-loop-i : goal.invariant-loop-i
-invariant-loop-i l = Going (row_items rows) l.start l.stop l.l l.preds l.from l.to l.n l.env l.q l.i
-
-abbrev pub decreases-loop-i : goal.decreases-loop-i
-decreases-loop-i l = l.stop - l.i
+abbrev pub invariant-loop-line : goal.invariant-loop-line
+invariant-loop-line l = Passes (joined (take l.line-index l.row)) begin l.l l.claims l.initial.env (Some l.q) l.env × Possible l.l l.env

@@ -1,10 +1,8 @@
-use Prim.Native.Nat.{◌-◌}
-use Rattle.contexts.specs.Contexts.{context_of}
-use Rattle.contexts.proofs.ClashLaws.{Met}
+use Rattle.contexts.proofs.ClashLaws.{MetAll}
 use Rattle.contexts.proofs.clashes.apart.Given as goal
 
-abbrev pub invariant-loop-i : goal.invariant-loop-i
-invariant-loop-i l = Met (context_of l.n l.g) l.n l.seen l.i l.at
+abbrev pub invariant-loop-x : goal.invariant-loop-x
+invariant-loop-x l = MetAll l.g l.seen l.rest
 
-abbrev pub decreases-loop-i : goal.decreases-loop-i
-decreases-loop-i l = l.n - l.i
+abbrev pub decreases-loop-x : goal.decreases-loop-x
+decreases-loop-x l = l.rest.count

@@ -1,56 +1,32 @@
-use native.Mathlib.Omega.{arith}
-use mathlib.Core.Path.{sym, ap, ◌∙◌}
-use lib.ListN.{length}
+use mathlib.Core.Path.{refl, sym, ◌∙◌}
+use Rattle.std.proofs.lemmas.Result.{err_from_is_err_and}
 use Rattle.steps.proofs.RunLaws.{runs-led}
-use Rattle.steps.proofs.TreeLaws.{is-short}
-use Rattle.contexts.proofs.ContextLaws.{context-as, context-short, first_of}
-use Rattle.contexts.proofs.MemberLaws.{member-none, member-here, member-stop, member-up}
+use Rattle.steps.proofs.LentLaws.{kept-of, lent-same, lent-on}
+use Rattle.contexts.proofs.MemberLaws.{member-none, member-here, member-stop, member-up, member_short}
 use Rattle.contexts.proofs.members.+member.Goals as goal
 
-pub returns-then-n-eq0 : goal.returns-then-n-eq0
-returns-then-n-eq0 t c = member-none c.requires.0 _ c.requires.2 c.if-n-eq0.true
+pub returns-in_default : goal.returns-in_default
+returns-in_default t c = record { runs = member-none (kept-of c.args.p.now) _ c.in_default.ensures; lent = lent-same }
 
-pub formula_at-h-requires : goal.formula_at-h-requires
-formula_at-h-requires t c = tt
+pub emit-requires : goal.emit-requires
+emit-requires t c = (kept-of c.args.p.now, member_short c.requires c.args.g.sound c.count_field-count.ensures)
 
-pub same-requires : goal.same-requires
-same-requires t c = tt
-
-pub count-requires : goal.count-requires
-count-requires t c = tt
-
-pub emit3-requires : goal.emit3-requires
-emit3-requires t c = (c.requires.0, omega (arith, is-short c.requires.1, ap length c.count.ensures, context-short c.requires.2))
+pub invariant_of-p : goal.invariant_of-p
+invariant_of-p t c = record { indexed = runs-led (member-here c.requires c.in-Some.ensures (sym c.same.ensures ∙ c.if-same.true) c.count_field-count.ensures c.emit.ensures) }
 
 pub returns-then-same : goal.returns-then-same
-returns-then-same t c = member-here c.requires.1 c.requires.2 c.if-n-eq0.false c.formula_at-h.ensures (sym c.same.ensures ∙ c.if-same.true) c.count.ensures c.emit3.ensures
+returns-then-same t c = record { runs = member-here c.requires c.in-Some.ensures (sym c.same.ensures ∙ c.if-same.true) c.count_field-count.ensures c.emit.ensures; lent = record { ledger = refl; index = refl } }
 
-pub overflow_sub-n : goal.overflow_sub-n
-overflow_sub-n t c = omega (arith, c.if-n-eq0.false)
+pub returns-in_err-i : goal.returns-in_err-i
+returns-in_err-i t c =
+    let p = err_from_is_err_and c.from_residual.result c.from_residual.ensures.1 in
+    rw (p.1, p.2) (record { runs = member-stop c.requires c.in-Some.ensures (sym c.same.ensures ∙ c.if-same.false) c.in_err-i.ensures.runs refl; lent = c.in_err-i.ensures.lent })
 
-pub slice_bounds-member-count : goal.slice_bounds-member-count
-slice_bounds-member-count t c = (first_of _ _ _ _ c.requires.2 c.if-n-eq0.false c.formula_at-h.ensures).inside
+pub emit-requires-2 : goal.emit-requires-2
+emit-requires-2 t c = (runs-led c.in_ok-i.ensures.runs, member_short c.requires c.args.g.sound c.count_field-count.ensures)
 
-pub slice_bounds-member-start : goal.slice_bounds-member-start
-slice_bounds-member-start t c = (first_of _ _ _ _ c.requires.2 c.if-n-eq0.false c.formula_at-h.ensures).inside
-
-pub member-r-requires : goal.member-r-requires
-member-r-requires t c = (omega (arith, c.decreases, c.if-n-eq0.false), (c.requires.0, c.requires.1, context-as (first_of _ _ _ _ c.requires.2 c.if-n-eq0.false c.formula_at-h.ensures).others))
-
-pub is_done-requires : goal.is_done-requires
-is_done-requires t c = tt
-
-pub returns-then-not-is_done : goal.returns-then-not-is_done
-returns-then-not-is_done t c = member-stop c.requires.1 c.requires.2 c.if-n-eq0.false c.formula_at-h.ensures (sym c.same.ensures ∙ c.if-same.false) c.member-r.ensures (sym c.is_done.ensures ∙ c.if-not-is_done.true)
-
-pub step_of-requires : goal.step_of-requires
-step_of-requires t c = tt
-
-pub count-requires-2 : goal.count-requires-2
-count-requires-2 t c = tt
-
-pub emit3-requires-2 : goal.emit3-requires-2
-emit3-requires-2 t c = (runs-led c.member-r.ensures, omega (arith, is-short c.requires.1, ap length c.count-2.ensures, context-short c.requires.2))
+pub invariant_of-p-2 : goal.invariant_of-p-2
+invariant_of-p-2 t c = record { indexed = runs-led (member-up c.requires c.in-Some.ensures (sym c.same.ensures ∙ c.if-same.false) c.in_ok-i.ensures.runs refl refl c.count_field-count.ensures c.emit-2.ensures) }
 
 pub returns : goal.returns
-returns t c = member-up c.requires.1 c.requires.2 c.if-n-eq0.false c.formula_at-h.ensures (sym c.same.ensures ∙ c.if-same.false) c.member-r.ensures (sym c.is_done.ensures ∙ c.if-not-is_done.false) c.step_of.ensures c.count-2.ensures c.emit3-2.ensures
+returns t c = record { runs = member-up c.requires c.in-Some.ensures (sym c.same.ensures ∙ c.if-same.false) c.in_ok-i.ensures.runs refl refl c.count_field-count.ensures c.emit-2.ensures; lent = lent-on c.in_ok-i.ensures.lent (record { ledger = refl; index = refl }) }

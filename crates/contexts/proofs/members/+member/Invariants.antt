@@ -1,4 +1,4 @@
 use Rattle.contexts.proofs.members.+member.Given as goal
 
 abbrev pub decreases-member : goal.decreases-member
-decreases-member l = l.n
+decreases-member l = l.g.count

@@ -1,31 +1,17 @@
-use native.Mathlib.Omega.{arith}
-use Rattle.contexts.proofs.ContextLaws.{context-as, first_of}
-use Rattle.contexts.proofs.MoveLaws.{face-some, compound-none, compound-here, compound-there}
+use Rattle.contexts.proofs.MoveLaws.{face-some, compound-none, compound-here, compound-there, compound-nowhere}
 use Rattle.contexts.proofs.moves.+first_compound.Goals as goal
 
-pub returns-then-n-eq0 : goal.returns-then-n-eq0
-returns-then-n-eq0 t c = (omega arith, compound-none c.requires c.if-n-eq0.true)
-
-pub formula_at-x-requires : goal.formula_at-x-requires
-formula_at-x-requires t c = tt
+pub returns-in_err-x : goal.returns-in_err-x
+returns-in_err-x t c = rw c.from_residual.ensures (compound-none c.in_err-x.ensures)
 
 pub bounds-x-0 : goal.bounds-x-0
-bounds-x-0 t c = face-some (first_of _ _ _ _ c.requires c.if-n-eq0.false c.formula_at-x.ensures).face
+bounds-x-0 t c = face-some c.in_ok-x.ensures.face
 
 pub returns-then-compound : goal.returns-then-compound
-returns-then-compound t c = (omega arith, compound-here c.requires c.if-n-eq0.false c.formula_at-x.ensures c.if-compound.true)
+returns-then-compound t c = compound-here c.in_ok-x.ensures c.if-compound.true
 
-pub overflow_sub-n : goal.overflow_sub-n
-overflow_sub-n t c = omega (arith, c.if-n-eq0.false)
-
-pub slice_bounds-first_compound-count : goal.slice_bounds-first_compound-count
-slice_bounds-first_compound-count t c = (first_of _ _ _ _ c.requires c.if-n-eq0.false c.formula_at-x.ensures).inside
-
-pub slice_bounds-first_compound-start : goal.slice_bounds-first_compound-start
-slice_bounds-first_compound-start t c = (first_of _ _ _ _ c.requires c.if-n-eq0.false c.formula_at-x.ensures).inside
-
-pub first_compound-requires : goal.first_compound-requires
-first_compound-requires t c = (omega (arith, c.decreases, c.if-n-eq0.false), context-as (first_of _ _ _ _ c.requires c.if-n-eq0.false c.formula_at-x.ensures).others)
+pub returns-in_err-i : goal.returns-in_err-i
+returns-in_err-i t c = rw c.from_residual-in_err-i.ensures (compound-nowhere c.in_ok-x.ensures c.if-compound.false c.in_err-i.ensures)
 
 pub returns : goal.returns
-returns t c = (omega (arith, c.first_compound.ensures.0, c.if-n-eq0.false), compound-there c.requires c.if-n-eq0.false c.formula_at-x.ensures c.if-compound.false c.first_compound.ensures.1)
+returns t c = compound-there c.in_ok-x.ensures c.if-compound.false c.in_ok-i.ensures

@@ -1,12 +1,12 @@
-use Prim.Native.Nat.{◌-◌}
+use mathlib.Core.Path.{◌≡◌}
 use Rattle.formula.specs.declared.Sort.TheVariants.{Faces}
 use Rattle.formula.specs.Answers.{tree_of}
-use Rattle.contexts.specs.Contexts.{context_of}
-use Rattle.contexts.proofs.PassLaws.{Passed}
+use Rattle.calculus.specs.Search.{has}
+use Rattle.contexts.specs.Faces.{faces_of}
 use Rattle.contexts.proofs.moves.has.Given as goal
 
-abbrev pub invariant-loop-i : goal.invariant-loop-i
-invariant-loop-i l = Passed (tree_of Faces l.f) (context_of l.n l.g) l.n l.i l.at
+abbrev pub invariant-loop-h : goal.invariant-loop-h
+invariant-loop-h l = has (tree_of Faces l.f) (faces_of l.rest) ≡ has (tree_of Faces l.f) (faces_of l.g)
 
-abbrev pub decreases-loop-i : goal.decreases-loop-i
-decreases-loop-i l = l.n - l.i
+abbrev pub decreases-loop-h : goal.decreases-loop-h
+decreases-loop-h l = l.rest.count

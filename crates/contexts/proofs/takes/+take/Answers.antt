@@ -1,68 +1,51 @@
+use mathlib.Core.Path.{refl, subst}
 use native.Mathlib.Omega.{arith}
-use mathlib.Core.Path.{sym, ◌∙◌}
+use Rattle.std.proofs.lemmas.Result.{err_from_is_err_and}
 use Rattle.steps.proofs.RunLaws.{runs-led}
-use Rattle.contexts.proofs.TakeLaws.{take_short, take-here, rest-cut, rest-without, take-stop, take-up}
+use Rattle.steps.proofs.LentLaws.{kept-of, lent-on}
+use Rattle.contexts.specs.Faces.{Splits}
+use Rattle.contexts.proofs.ContextLaws.{some-of}
+use Rattle.contexts.proofs.TakeLaws.{take_short, take-here, take-some, rest-left, take-stop, take-up}
 use Rattle.contexts.proofs.takes.+take.Goals as goal
 
-pub count-requires : goal.count-requires
-count-requires t c = tt
-
-pub overflow_sub-n : goal.overflow_sub-n
-overflow_sub-n t c = omega (arith, c.requires.1.inside)
-
-pub count-requires-then-i-eq0 : goal.count-requires-then-i-eq0
-count-requires-then-i-eq0 t c = tt
-
 pub emit-requires : goal.emit-requires
-emit-requires t c = (c.requires.0, take_short c.requires.1 c.count.ensures c.count-then-i-eq0.ensures)
+emit-requires t c = let a = c.args in (kept-of a.p.now, take_short a.g a.d c.requires c.count_field-before.ensures c.count_field-after.ensures)
+
+pub invariant_of-p : goal.invariant_of-p
+invariant_of-p t c = let a = c.args in record { indexed = runs-led (take-here a.g a.d c.requires c.if-i-eq0.true c.count_field-before.ensures c.count_field-after.ensures c.emit.ensures) }
 
 pub returns-then-i-eq0 : goal.returns-then-i-eq0
-returns-then-i-eq0 t c = take-here c.requires.1 c.if-i-eq0.true c.count.ensures c.count-then-i-eq0.ensures c.emit.ensures
+returns-then-i-eq0 t c = let a = c.args in record { runs = take-here a.g a.d c.requires c.if-i-eq0.true c.count_field-before.ensures c.count_field-after.ensures c.emit.ensures; lent = record { ledger = refl; index = refl } }
 
-pub formula_at-h-requires : goal.formula_at-h-requires
-formula_at-h-requires t c = tt
+pub unwrap-requires : goal.unwrap-requires
+unwrap-requires t c = let a = c.args in some-of a.g c.split_first.result c.split_first.ensures (take-some a.g a.d c.requires c.if-i-eq0.false).0
 
-pub overflow_sub-i : goal.overflow_sub-i
-overflow_sub-i t c = omega (arith, c.if-i-eq0.false)
+pub unwrap-requires-2 : goal.unwrap-requires-2
+unwrap-requires-2 t c = let a = c.args in some-of a.d c.split_first-2.result c.split_first-2.ensures (take-some a.g a.d c.requires c.if-i-eq0.false).1
 
-pub overflow_sub-n-2 : goal.overflow_sub-n-2
-overflow_sub-n-2 t c = omega (arith, c.requires.1.inside)
+pub take-requires : goal.take-requires
+take-requires t c = let a = c.args in (omega (arith, c.decreases, c.if-i-eq0.false), rest-left a.g a.d c.requires c.if-i-eq0.false (subst (Splits a.g) c.unwrap.ensures c.split_first.ensures) (subst (Splits a.d) c.unwrap-2.ensures c.split_first-2.ensures))
 
-pub slice_bounds-take-count : goal.slice_bounds-take-count
-slice_bounds-take-count t c = (rest-cut c.requires.1 c.if-i-eq0.false c.formula_at-h.ensures).0
-
-pub slice_bounds-take-start : goal.slice_bounds-take-start
-slice_bounds-take-start t c = (rest-cut c.requires.1 c.if-i-eq0.false c.formula_at-h.ensures).0
-
-pub slice_bounds-take-count-2 : goal.slice_bounds-take-count-2
-slice_bounds-take-count-2 t c = (rest-cut c.requires.1 c.if-i-eq0.false c.formula_at-h.ensures).1
-
-pub slice_bounds-take-start-2 : goal.slice_bounds-take-start-2
-slice_bounds-take-start-2 t c = (rest-cut c.requires.1 c.if-i-eq0.false c.formula_at-h.ensures).1
-
-pub take-r-requires : goal.take-r-requires
-take-r-requires t c = (omega (arith, c.decreases, c.if-i-eq0.false), (c.requires.0, rest-without c.requires.1 c.if-i-eq0.false c.formula_at-h.ensures))
-
-pub is_done-requires : goal.is_done-requires
-is_done-requires t c = tt
-
-pub returns-then-not-is_done : goal.returns-then-not-is_done
-returns-then-not-is_done t c = take-stop c.requires.1 c.if-i-eq0.false c.formula_at-h.ensures c.take-r.ensures (sym c.is_done.ensures ∙ c.if-not-is_done.true)
-
-pub step_of-requires : goal.step_of-requires
-step_of-requires t c = tt
-
-pub count-requires-2 : goal.count-requires-2
-count-requires-2 t c = tt
-
-pub overflow_sub-n-3 : goal.overflow_sub-n-3
-overflow_sub-n-3 t c = omega (arith, c.requires.1.inside)
-
-pub count-requires-3 : goal.count-requires-3
-count-requires-3 t c = tt
+pub returns-in_err-r : goal.returns-in_err-r
+returns-in_err-r t c = let a = c.args in
+    let p = err_from_is_err_and c.from_residual.result c.from_residual.ensures.1 in
+    rw (p.1, p.2) (record {
+      runs = take-stop a.g a.d c.requires c.if-i-eq0.false (subst (Splits a.g) c.unwrap.ensures c.split_first.ensures) (subst (Splits a.d) c.unwrap-2.ensures c.split_first-2.ensures) c.in_err-r.ensures.runs refl;
+      lent = c.in_err-r.ensures.lent;
+    })
 
 pub emit-requires-2 : goal.emit-requires-2
-emit-requires-2 t c = (runs-led c.take-r.ensures, take_short c.requires.1 c.count-2.ensures c.count-3.ensures)
+emit-requires-2 t c = let a = c.args in (runs-led c.in_ok-r.ensures.runs, take_short a.g a.d c.requires c.count_field-before.ensures c.count_field-after.ensures)
+
+pub invariant_of-p-2 : goal.invariant_of-p-2
+invariant_of-p-2 t c = let a = c.args in record {
+  indexed = runs-led (take-up a.g a.d c.requires c.if-i-eq0.false (subst (Splits a.g) c.unwrap.ensures c.split_first.ensures) (subst (Splits a.d) c.unwrap-2.ensures c.split_first-2.ensures) c.in_ok-r.ensures.runs refl refl
+      c.count_field-before.ensures c.count_field-after.ensures c.emit-2.ensures);
+}
 
 pub returns : goal.returns
-returns t c = take-up c.requires.1 c.if-i-eq0.false c.formula_at-h.ensures c.take-r.ensures (sym c.is_done.ensures ∙ c.if-not-is_done.false) c.step_of.ensures c.count-2.ensures c.count-3.ensures c.emit-2.ensures
+returns t c = let a = c.args in record {
+  runs = take-up a.g a.d c.requires c.if-i-eq0.false (subst (Splits a.g) c.unwrap.ensures c.split_first.ensures) (subst (Splits a.d) c.unwrap-2.ensures c.split_first-2.ensures) c.in_ok-r.ensures.runs refl refl
+      c.count_field-before.ensures c.count_field-after.ensures c.emit-2.ensures;
+  lent = lent-on c.in_ok-r.ensures.lent (record { ledger = refl; index = refl });
+}
