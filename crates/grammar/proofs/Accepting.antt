@@ -9,23 +9,25 @@ use Rattle.formula.specs.Formula.{Face}
 use Rattle.formula.specs.Bytes.{Tree, nodes, bound, max_nodes, max_bound}
 use Rattle.text.specs.Tokens.{Token, word, tokens}
 use Rattle.text.specs.Grammar.{Formula, Claim, entails}
-use Rattle.refusals.specs.Refusals.{Result, refused, done, map}
+use Rattle.refusals.specs.Refusals.{map}
+use Rattle.refusals.specs.declared.Refusal.{Refusal}
+use Rattle.std.specs.Prelude.{Result, Ok, Err}
 use Rattle.text.specs.Reading.{Item, formula, number, claim, Values, run, read_formula, Claimed, read_claim}
 use Rattle.grammar.proofs.Advancing.{Follows, Left, Fits, Cost, free, node, succ, anew, spend, for-free, for-node, for-succ, for-anew, Paid, spend-paid, Back, Advances, goes, stuck, advances, nothing-follows}
 
 -- What is done was done below a function.
-done-one : {A : Type 0} {x y : A} → done x ≡ done y → x ≡ y
+done-one : {A : Type 0} {x y : A} → ◌≡◌ {A = Result A Refusal} (Ok x) (Ok y) → x ≡ y
 done-one e = cc
 
-not_done : {A B : Type 0} {e : _} {x : A} → ◌≡◌ {A = Result A} (refused e) (done x) → B
+not_done : {A B : Type 0} {e : _} {x : A} → ◌≡◌ {A = Result A Refusal} (Err e) (Ok x) → B
 not_done p = absurd (let z : ◌≡◌ {A = ℕ} 0 1 = cc in omega arith)
 
-pub map-done : {A B : Type 0} (f : A → B) (o : Result A) {y : B} → map f o ≡ done y → Back f (λ x. o ≡ done x) y
-map-done f (refused e) p = not_done p
-map-done f (done x) p = record { value = x; holds = refl; gives = done-one p }
+pub map-done : {A B : Type 0} (f : A → B) (o : Result A Refusal) {y : B} → map f o ≡ Ok y → Back f (λ x. o ≡ Ok x) y
+map-done f (Err e) p = not_done p
+map-done f (Ok x) p = record { value = x; holds = refl; gives = done-one p }
 
 -- What is done was paid for.
-pub spend-done : {A : Type 0} (c : Cost) (n : ℕ) (k : ℕ → Result A) {x : A} → spend c n k ≡ done x → Paid c n (λ m. k m ≡ done x)
+pub spend-done : {A : Type 0} (c : Cost) (n : ℕ) (k : ℕ → Result A Refusal) {x : A} → spend c n k ≡ Ok x → Paid c n (λ m. k m ≡ Ok x)
 spend-done free n k e = record { left = n; spends = for-free; then = e }
 spend-done node zero k e = not_done e
 spend-done node (suc n) k e = record { left = n; spends = for-node; then = e }
@@ -39,9 +41,9 @@ pub record Reads (n : ℕ) (K : List Item) (v : Values K) (ts : List Token) : Ty
   pub fits : Fits n K v
 
 abbrev Sound : List Token → Type 0
-Sound ts = (n : ℕ) (K : List Item) (v : Values K) → run ts n K ≡ done v → Reads n K v ts
+Sound ts = (n : ℕ) (K : List Item) (v : Values K) → run ts n K ≡ Ok v → Reads n K v ts
 
-sound-token : {ts : List Token} → Sound ts → (i : Item) (x : Token) (n : ℕ) (K : List Item) (v : Values (i ∷ K)) → Advances i x → run (x ∷ ts) n (i ∷ K) ≡ done v → Reads n (i ∷ K) v (x ∷ ts)
+sound-token : {ts : List Token} → Sound ts → (i : Item) (x : Token) (n : ℕ) (K : List Item) (v : Values (i ∷ K)) → Advances i x → run (x ∷ ts) n (i ∷ K) ≡ Ok v → Reads n (i ∷ K) v (x ∷ ts)
 unfolding run
 sound-token {ts} h i x n K v (goes a) e =
     let p = spend-done a.cost n (λ m. map (a.with K) (run ts m (a.adds ++ K))) (sym (a.reads K n ts) ∙ e) in
@@ -58,14 +60,14 @@ sound (x ∷ ts) n [] v e = not_done e
 sound (x ∷ ts) n (i ∷ K) v e = sound-token (sound ts) i x n K v (advances i x) e
 
 abbrev Complete : List Token → Type 0
-Complete ts = (n : ℕ) (K : List Item) (v : Values K) → Follows K v ts → Fits n K v → run ts n K ≡ done v
+Complete ts = (n : ℕ) (K : List Item) (v : Values K) → Follows K v ts → Fits n K v → run ts n K ≡ Ok v
 
-complete-token : {ts : List Token} → Complete ts → (i : Item) (x : Token) (n : ℕ) (K : List Item) (v : Values (i ∷ K)) → Advances i x → Follows (i ∷ K) v (x ∷ ts) → Fits n (i ∷ K) v → run (x ∷ ts) n (i ∷ K) ≡ done v
+complete-token : {ts : List Token} → Complete ts → (i : Item) (x : Token) (n : ℕ) (K : List Item) (v : Values (i ∷ K)) → Advances i x → Follows (i ∷ K) v (x ∷ ts) → Fits n (i ∷ K) v → run (x ∷ ts) n (i ∷ K) ≡ Ok v
 unfolding run
 complete-token {ts} h i x n K v (goes a) f g =
     let b = a.back K ts v f in
     let p = a.pays K n b.value (subst (Fits n (i ∷ K)) (sym b.gives) g) in
-    a.reads K n ts ∙ spend-paid (λ m. map (a.with K) (run ts m (a.adds ++ K))) p.spends ∙ ap (map (a.with K)) (h p.left (a.adds ++ K) b.value b.holds p.then) ∙ ap done b.gives
+    a.reads K n ts ∙ spend-paid (λ m. map (a.with K) (run ts m (a.adds ++ K))) p.spends ∙ ap (map (a.with K)) (h p.left (a.adds ++ K) b.value b.holds p.then) ∙ ap Ok b.gives
 complete-token {ts} h i x n K v (stuck a) f g = absurd (a.nothing K ts v f)
 
 pub complete : (ts : List Token) → Complete ts
@@ -99,7 +101,7 @@ left-of : (s : Sort) (t : Tree s) {P : Type 0} → Within s t → P → Left max
 left-of s t h x = record { rest = max_nodes - nodes s t; spent = omega (arith, h.0); low = h.1; then = x }
 
 -- A text reads as a formula exactly when it is a text of that formula, and the formula keeps the limits.
-pub formula-read : (s : Sort) (l : List ℕ) (t : Tree s) → read_formula s l ≡ done t → Formula s t (tokens l) [] × Within s t
+pub formula-read : (s : Sort) (l : List ℕ) (t : Tree s) → read_formula s l ≡ Ok t → Formula s t (tokens l) [] × Within s t
 unfolding read_formula
 formula-read s l t e =
     let d = map-done (λ v. v.0) (run (tokens l) 0 (formula s ∷ [])) e in
@@ -107,7 +109,7 @@ formula-read s l t e =
     let f : Formula s d.value.0 (tokens l) [] = subst (Formula s d.value.0 (tokens l)) r.follows.second r.follows.first in
     subst (λ t. Formula s t (tokens l) [] × Within s t) d.gives (f, (omega (arith, r.fits.spent), r.fits.low))
 
-pub reads-formula : (s : Sort) (l : List ℕ) (t : Tree s) → Formula s t (tokens l) [] → Within s t → read_formula s l ≡ done t
+pub reads-formula : (s : Sort) (l : List ℕ) (t : Tree s) → Formula s t (tokens l) [] → Within s t → read_formula s l ≡ Ok t
 unfolding read_formula
 reads-formula s l t f h = ap (map (λ v. v.0)) (complete (tokens l) 0 (formula s ∷ []) (t, tt) (whole f) (left-of s t h tt))
 
@@ -134,7 +136,7 @@ abbrev pub ClaimWithin : Claimed → Type 0
 ClaimWithin c = (c.dimensions ≤ max_bound) × Within Faces c.left × Within Faces c.right
 
 -- A text reads as a claim exactly when it is a text of that claim, and the claim keeps the limits.
-pub claim-read : (l : List ℕ) (c : Claimed) → read_claim l ≡ done c → Claim c.dimensions c.left c.right (tokens l) [] × ClaimWithin c
+pub claim-read : (l : List ℕ) (c : Claimed) → read_claim l ≡ Ok c → Claim c.dimensions c.left c.right (tokens l) [] × ClaimWithin c
 unfolding read_claim
 claim-read l c e =
     let d = map-done (λ v. record { dimensions = v.0; left = v.1.0; right = v.1.1.0 }) (run (tokens l) 0 claimed) e in
@@ -143,7 +145,7 @@ claim-read l c e =
     let q = p.then in
     subst (λ c. Claim c.dimensions c.left c.right (tokens l) [] × ClaimWithin c) d.gives (follows-claim d.value r.follows, (r.fits.0, (omega (arith, p.spent), p.low), (omega (arith, q.spent), q.low)))
 
-pub reads-claim : (l : List ℕ) (c : Claimed) → Claim c.dimensions c.left c.right (tokens l) [] → ClaimWithin c → read_claim l ≡ done c
+pub reads-claim : (l : List ℕ) (c : Claimed) → Claim c.dimensions c.left c.right (tokens l) [] → ClaimWithin c → read_claim l ≡ Ok c
 unfolding read_claim
 reads-claim l c f h =
     ap (map (λ v. record { dimensions = v.0; left = v.1.0; right = v.1.1.0 }))

@@ -7,14 +7,16 @@ use mathlib.Core.List.{List, [], ◌∷◌, ◌++◌, nil≢cons, head-eq_of_con
 use Rattle.formula.specs.declared.Sort.{Sort}
 use Rattle.formula.specs.Bytes.{Tree, Node, leaf, lit, one, two, bad, nodes, bound, max_nodes, max_bound}
 use Rattle.formula.specs.Answers.{pick, same_bytes}
-use Rattle.formula.proofs.Nodes.{made_as}
+use Rattle.formula.proofs.Nodes.{Makes, made_as}
 use Rattle.formula.proofs.ByteLaws.{same_true, same_refl}
 use Rattle.calculus.specs.Table.{text_bytes}
 use Rattle.refusals.specs.declared.Refusal.TheVariants.{LargeDimension, NotAccepted}
-use Rattle.refusals.specs.Refusals.{Result, refused, done, map}
+use Rattle.refusals.specs.Refusals.{map}
+use Rattle.refusals.specs.declared.Refusal.{Refusal}
+use Rattle.std.specs.Prelude.{Option, Some, None, Result, Ok, Err}
 use Rattle.text.specs.Tokens
 use Rattle.text.specs.Tokens.{Token, opening, word}
-use Rattle.text.specs.Words.{kind_named, node_named, zero_word, succ-word, entails-word}
+use Rattle.text.specs.Words.{kind_named, node_if, node_named, zero_word, succ-word, entails-word}
 use Rattle.text.specs.Grammar.{Number, bare-zero, zero-list, succ-list, Formula, bare-leaf, leaf-list, lit-list, one_list, two-list}
 use Rattle.text.specs.Reading.{Item, formula, part, part_list, number, number_list, close, claim, Values, counted, bare_node, max_dim, list_node, succeeded, token, run}
 
@@ -61,10 +63,10 @@ pub data Cost : Type 0 where
   succ : ℕ → Cost
   anew : Cost → Cost
 
-abbrev pub spend : {A : Type 0} → Cost → ℕ → (ℕ → Result A) → Result A
+abbrev pub spend : {A : Type 0} → Cost → ℕ → (ℕ → Result A Refusal) → Result A Refusal
 spend free n k = k n
 spend node n k = counted n k
-spend (succ zero) n k = refused LargeDimension
+spend (succ zero) n k = Err LargeDimension
 spend (succ (suc j)) n k = k n
 spend (anew c) n k = spend c max_nodes k
 
@@ -81,7 +83,7 @@ pub record Paid (c : Cost) (n : ℕ) (P : ℕ → Type 0) : Type 0 where
   pub spends : Spends c n left
   pub then : P left
 
-pub spend-paid : {A : Type 0} {c : Cost} {n m : ℕ} (k : ℕ → Result A) → Spends c n m → spend c n k ≡ k m
+pub spend-paid : {A : Type 0} {c : Cost} {n m : ℕ} (k : ℕ → Result A Refusal) → Spends c n m → spend c n k ≡ k m
 spend-paid k for-free = refl
 spend-paid k for-node = refl
 spend-paid k for-succ = refl
@@ -125,16 +127,16 @@ pub record GoesOn (i : Item) (x : Token) : Type 0 where
 
 -- No text goes on with the token.
 pub record Stuck (i : Item) (x : Token) : Type 0 where
-  pub refuses : (K : List Item) (n : ℕ) (ts : List Token) → token i x n K (run ts) ≡ refused NotAccepted
+  pub refuses : (K : List Item) (n : ℕ) (ts : List Token) → token i x n K (run ts) ≡ Err NotAccepted
   pub nothing : (K : List Item) (ts : List Token) (v : Values (i ∷ K)) → Follows (i ∷ K) v (x ∷ ts) → ⊥
 
 pub data Advances (i : Item) (x : Token) : Type 0 where
   goes : GoesOn i x → Advances i x
   stuck : Stuck i x → Advances i x
 
-map-id : {A : Type 0} (o : Result A) → o ≡ map (λ u. u) o
-map-id (refused e) = refl
-map-id (done x) = refl
+map-id : {A : Type 0} (o : Result A Refusal) → o ≡ map (λ u. u) o
+map-id (Err e) = refl
+map-id (Ok x) = refl
 
 -- How texts begin, and what stands behind an opening parenthesis.
 Starts : List Token → Type 0
@@ -199,7 +201,7 @@ one-one e = cc
 two-one : {A : Type 0} {f g : A → A → A} → two f ≡ two g → f ≡ g
 two-one e = cc
 
-bare-other : {s : Sort} {w : List ℕ} {x : Node (Tree s)} → node_named s w ≡ x → (node_number x ≡ 0 → ⊥) → ((K : List Item) (n : ℕ) (ts : List Token) → bare_node x n K (run ts) ≡ refused NotAccepted) → Stuck (part s) (word w)
+bare-other : {s : Sort} {w : List ℕ} {x : Node (Tree s)} → node_named s w ≡ x → (node_number x ≡ 0 → ⊥) → ((K : List Item) (n : ℕ) (ts : List Token) → bare_node x n K (run ts) ≡ Err NotAccepted) → Stuck (part s) (word w)
 unfolding node_number
 bare-other {s} {w} p z r =
     record {
@@ -214,10 +216,18 @@ node-spends for-node = refl
 paid-node : {n m : ℕ} {P : ℕ → Type 0} → suc m ≡ n → P m → Paid node n P
 paid-node {m = m} e x = record { left = m; spends = subst (λ k. Spends node k m) e for-node; then = x }
 
+-- A word that names a node names its byte.
+pub named-made : (s : Sort) (w : List ℕ) (x : Node (Tree s)) → (x ≡ bad → ⊥) → node_named s w ≡ x → (b : ℕ) × Makes s b x
+named-made s w x h p = go (kind_named s w) p
+  where
+    go : (o : Option ℕ) → node_if s o ≡ x → (b : ℕ) × Makes s b x
+    go None q = absurd (h (sym q))
+    go (Some b) q = (b, made_as s b x q)
+
 bare-advances : (s : Sort) (w : List ℕ) (x : Node (Tree s)) → node_named s w ≡ x → Advances (part s) (word w)
 unfolding node_number
 bare-advances s w (leaf t) p =
-    let k = made_as s (kind_named s w) (leaf t) p in
+    let k = (named-made s w (leaf t) (λ e. cc) p).1 in
     goes
     (record {
       adds = [];
@@ -299,7 +309,7 @@ list-other {s} {w} p =
 
 list-advances : (s : Sort) (w : List ℕ) (x : Node (Tree s)) → node_named s w ≡ x → Advances (part_list s) (word w)
 list-advances s w (leaf t) p =
-    let k = made_as s (kind_named s w) (leaf t) p in
+    let k = (named-made s w (leaf t) (λ e. cc) p).1 in
     goes
     (record {
       adds = close ∷ [];
@@ -322,8 +332,8 @@ list-advances s w (lit g) p =
       reads = λ K n ts. ap (λ y. list_node s y n K (run ts)) p;
       there = λ K ts u f. record { behind = f.second.behind; first = lit-list p (subst (Number u.0 ts) f.second.first f.first); second = f.second.second };
       back = λ K ts v f. let q = of-lit p f.first in record { value = (q.value, v.1); holds = record { behind = Tokens.closing ∷ f.behind; first = q.text; second = record { behind = f.behind; first = refl; second = f.second } }; gives = ap (λ t. (t, v.1)) q.is };
-      pays = λ K n u f. let k = made_as s (kind_named s w) (lit g) p u.0 in paid-node {m = f.rest} (omega (arith, f.spent, k.count)) (omega (arith, f.low, k.top), f.then);
-      fits = λ K n m u q f. let k = made_as s (kind_named s w) (lit g) p u.0 in record { rest = m; spent = omega (arith, node-spends q, k.count); low = omega (arith, k.top, f.0); then = f.1 };
+      pays = λ K n u f. let k = (named-made s w (lit g) (λ e. cc) p).1 u.0 in paid-node {m = f.rest} (omega (arith, f.spent, k.count)) (omega (arith, f.low, k.top), f.then);
+      fits = λ K n m u q f. let k = (named-made s w (lit g) (λ e. cc) p).1 u.0 in record { rest = m; spent = omega (arith, node-spends q, k.count); low = omega (arith, k.top, f.0); then = f.1 };
     })
 list-advances s w (one g) p =
     goes
@@ -335,8 +345,8 @@ list-advances s w (one g) p =
       reads = λ K n ts. ap (λ y. list_node s y n K (run ts)) p;
       there = λ K ts u f. record { behind = f.second.behind; first = one_list p (subst (Formula s u.0 ts) f.second.first f.first); second = f.second.second };
       back = λ K ts v f. let q = of_one p f.first in record { value = (q.value, v.1); holds = record { behind = Tokens.closing ∷ f.behind; first = q.text; second = record { behind = f.behind; first = refl; second = f.second } }; gives = ap (λ t. (t, v.1)) q.is };
-      pays = λ K n u f. let k = made_as s (kind_named s w) (one g) p u.0 in paid-node {m = f.rest + nodes s u.0} (omega (arith, f.spent, k.count)) (record { rest = f.rest; spent = refl; low = omega (arith, f.low, k.top); then = f.then });
-      fits = λ K n m u q f. let k = made_as s (kind_named s w) (one g) p u.0 in record { rest = f.rest; spent = omega (arith, node-spends q, k.count, f.spent); low = omega (arith, k.top, f.low); then = f.then };
+      pays = λ K n u f. let k = (named-made s w (one g) (λ e. cc) p).1 u.0 in paid-node {m = f.rest + nodes s u.0} (omega (arith, f.spent, k.count)) (record { rest = f.rest; spent = refl; low = omega (arith, f.low, k.top); then = f.then });
+      fits = λ K n m u q f. let k = (named-made s w (one g) (λ e. cc) p).1 u.0 in record { rest = f.rest; spent = omega (arith, node-spends q, k.count, f.spent); low = omega (arith, k.top, f.low); then = f.then };
     })
 list-advances s w (two g) p =
     goes
@@ -348,8 +358,8 @@ list-advances s w (two g) p =
       reads = λ K n ts. ap (λ y. list_node s y n K (run ts)) p;
       there = λ K ts u f. record { behind = f.second.second.behind; first = two-list p f.first (subst (Formula s u.1.0 f.behind) f.second.second.first f.second.first); second = f.second.second.second };
       back = λ K ts v f. let q = of_two p f.first in record { value = (q.left, (q.right, v.1)); holds = record { behind = q.between; first = q.first; second = record { behind = Tokens.closing ∷ f.behind; first = q.second; second = record { behind = f.behind; first = refl; second = f.second } } }; gives = ap (λ t. (t, v.1)) q.is };
-      pays = λ K n u f. let k = made_as s (kind_named s w) (two g) p u.0 u.1.0 in paid-node {m = f.rest + nodes s u.1.0 + nodes s u.0} (omega (arith, f.spent, k.count)) (record { rest = f.rest + nodes s u.1.0; spent = refl; low = omega (arith, f.low, k.top); then = record { rest = f.rest; spent = refl; low = omega (arith, f.low, k.top); then = f.then } });
-      fits = λ K n m u q f. let k = made_as s (kind_named s w) (two g) p u.0 u.1.0 in record { rest = f.then.rest; spent = omega (arith, node-spends q, k.count, f.spent, f.then.spent); low = omega (arith, k.top, f.low, f.then.low); then = f.then.then };
+      pays = λ K n u f. let k = (named-made s w (two g) (λ e. cc) p).1 u.0 u.1.0 in paid-node {m = f.rest + nodes s u.1.0 + nodes s u.0} (omega (arith, f.spent, k.count)) (record { rest = f.rest + nodes s u.1.0; spent = refl; low = omega (arith, f.low, k.top); then = record { rest = f.rest; spent = refl; low = omega (arith, f.low, k.top); then = f.then } });
+      fits = λ K n m u q f. let k = (named-made s w (two g) (λ e. cc) p).1 u.0 u.1.0 in record { rest = f.then.rest; spent = omega (arith, node-spends q, k.count, f.spent, f.then.spent); low = omega (arith, k.top, f.low, f.then.low); then = f.then.then };
     })
 list-advances s w bad p = stuck (list-other p)
 
@@ -416,7 +426,7 @@ number_word k w true q =
       with = λ K u. (0, u);
       cost = free;
       move = bare-number z;
-      reads = λ K n ts. ap (λ b. pick b (map (λ v. (0, v)) (run ts n K)) (refused NotAccepted)) q;
+      reads = λ K n ts. ap (λ b. pick b (map (λ v. (0, v)) (run ts n K)) (Err NotAccepted)) q;
       there = λ K ts u f. record { behind = ts; first = bare-zero z; second = f };
       back = λ K ts v f. let h = zero_is f.first in record { value = v.1; holds = subst (Follows K v.1) h.2 f.second; gives = ap (λ n. (n, v.1)) h.1 };
       pays = λ K n u f. record { left = n; spends = for-free; then = f.1 };
@@ -425,7 +435,7 @@ number_word k w true q =
 number_word k w false q =
     stuck
     (record {
-      refuses = λ K n ts. ap (λ b. pick b (map (λ v. (0, v)) (run ts n K)) (refused NotAccepted)) q;
+      refuses = λ K n ts. ap (λ b. pick b (map (λ v. (0, v)) (run ts n K)) (Err NotAccepted)) q;
       nothing = λ K ts v f. no_true (sym q ∙ same_word (zero_is f.first).0);
     })
 
@@ -460,8 +470,8 @@ succ-reads zero n K ts = refl
 succ-reads (suc k) n K ts = refl
 
 list-reads : (w : List ℕ) {b c : Bool} (k n : ℕ) (K : List Item) (ts : List Token) → same_bytes zero_word w ≡ b → same_bytes succ-word w ≡ c
-    → token (number_list k) (word w) n K (run ts) ≡ pick b (map (λ v. (0, v)) (run ts n (close ∷ K))) (pick c (succeeded k n K (run ts)) (refused NotAccepted))
-list-reads w k n K ts p q = ap₂ (λ b c. pick b (map (λ v. (0, v)) (run ts n (close ∷ K))) (pick c (succeeded k n K (run ts)) (refused NotAccepted))) p q
+    → token (number_list k) (word w) n K (run ts) ≡ pick b (map (λ v. (0, v)) (run ts n (close ∷ K))) (pick c (succeeded k n K (run ts)) (Err NotAccepted))
+list-reads w k n K ts p q = ap₂ (λ b c. pick b (map (λ v. (0, v)) (run ts n (close ∷ K))) (pick c (succeeded k n K (run ts)) (Err NotAccepted))) p q
 
 number-list-word : (k : ℕ) (w : List ℕ) (b c : Bool) → same_bytes zero_word w ≡ b → same_bytes succ-word w ≡ c → Advances (number_list k) (word w)
 number-list-word k w true c p q =
@@ -503,7 +513,7 @@ claim-word w true q =
       with = λ K u. u;
       cost = free;
       move = begins z;
-      reads = λ K n ts. ap (λ b. pick b (run ts n K) (refused NotAccepted)) q ∙ map-id (run ts n K);
+      reads = λ K n ts. ap (λ b. pick b (run ts n K) (Err NotAccepted)) q ∙ map-id (run ts n K);
       there = λ K ts u f. record { behind = ts; first = ap (λ x. word x ∷ ts) z; second = f };
       back = λ K ts v f. record { value = v; holds = subst (Follows K v) (sym (tail-eq_of_cons-eq f.first)) f.second; gives = refl };
       pays = λ K n u f. record { left = n; spends = for-free; then = f };
@@ -512,7 +522,7 @@ claim-word w true q =
 claim-word w false q =
     stuck
     (record {
-      refuses = λ K n ts. ap (λ b. pick b (run ts n K) (refused NotAccepted)) q;
+      refuses = λ K n ts. ap (λ b. pick b (run ts n K) (Err NotAccepted)) q;
       nothing = λ K ts v f. no_true (sym q ∙ same_word (word-one (head-eq_of_cons-eq f.first)));
     })
 

@@ -4,7 +4,8 @@ use native.Mathlib.Omega.{arith}
 use mathlib.Core.Path.{◌≡◌, refl, sym, ap, ◌∙◌, subst}
 use mathlib.Core.List.{List, [], ◌∷◌, ◌++◌, head-eq_of_cons-eq, tail-eq_of_cons-eq, append-nil, append_assoc, append-eq-nil_iff}
 use Rattle.refusals.specs.declared.Refusal.{Refusal}
-use Rattle.refusals.specs.Refusals.{Result, refused, done, map}
+use Rattle.refusals.specs.Refusals.{map}
+use Rattle.std.specs.Prelude.{Result, Ok, Err}
 use Rattle.text.specs.Tokens.{Token}
 use Rattle.grammar.specs.Meeting.{Begins, Fine, Wrong, no_text, many, large, Kept, Met, at-token, at-end}
 
@@ -93,30 +94,30 @@ met-whole (at-token P x us p k w) l h = wrong-fine w (l (P ++ x ∷ []) us (p �
 met-whole (at-end k n) l h = n h
 
 -- What an answer says of the tokens.
-pub data Verdict (W M B : List Token → Type 0) (ts : List Token) {A : Type 0} : Result A → Type 0 where
-  refuses : {e : Refusal} → Met W M B ts e → Verdict W M B ts (refused e)
-  accepts : {v : A} → Kept W M B ts → W ts → Verdict W M B ts (done v)
+pub data Verdict (W M B : List Token → Type 0) (ts : List Token) {A : Type 0} : Result A Refusal → Type 0 where
+  refuses : {e : Refusal} → Met W M B ts e → Verdict W M B ts (Err e)
+  accepts : {v : A} → Kept W M B ts → W ts → Verdict W M B ts (Ok v)
 
-pub verdict-map : {W M B : List Token → Type 0} {ts : List Token} {A C : Type 0} (f : A → C) {o : Result A} → Verdict W M B ts o → Verdict W M B ts (map f o)
+pub verdict-map : {W M B : List Token → Type 0} {ts : List Token} {A C : Type 0} (f : A → C) {o : Result A Refusal} → Verdict W M B ts o → Verdict W M B ts (map f o)
 verdict-map f (refuses h) = refuses h
 verdict-map f (accepts k h) = accepts k h
 
-refused-one : {A : Type 0} {e d : Refusal} → ◌≡◌ {A = Result A} (refused e) (refused d) → e ≡ d
+refused-one : {A : Type 0} {e d : Refusal} → ◌≡◌ {A = Result A Refusal} (Err e) (Err d) → e ≡ d
 refused-one p = cc
 
-not-refused : {A C : Type 0} {v : A} {e : Refusal} → ◌≡◌ {A = Result A} (done v) (refused e) → C
+not-refused : {A C : Type 0} {v : A} {e : Refusal} → ◌≡◌ {A = Result A Refusal} (Ok v) (Err e) → C
 not-refused p = absurd (let z : ◌≡◌ {A = ℕ} 0 1 = cc in omega arith)
 
-pub verdict-met : {W M B : List Token → Type 0} {ts : List Token} {A : Type 0} {o : Result A} {e : Refusal} → Verdict W M B ts o → o ≡ refused e → Met W M B ts e
+pub verdict-met : {W M B : List Token → Type 0} {ts : List Token} {A : Type 0} {o : Result A Refusal} {e : Refusal} → Verdict W M B ts o → o ≡ Err e → Met W M B ts e
 verdict-met {W} {M} {B} {ts} (refuses h) p = subst (Met W M B ts) (refused-one p) h
 verdict-met (accepts k h) p = not-refused p
 
-pub met-verdict : {W M B : List Token → Type 0} {ts : List Token} {A : Type 0} {o : Result A} {e : Refusal} → Apart W M B → Verdict W M B ts o → Met W M B ts e → o ≡ refused e
-met-verdict h (refuses v) m = ap refused (met-one h v m)
+pub met-verdict : {W M B : List Token → Type 0} {ts : List Token} {A : Type 0} {o : Result A Refusal} {e : Refusal} → Apart W M B → Verdict W M B ts o → Met W M B ts e → o ≡ Err e
+met-verdict h (refuses v) m = ap Err (met-one h v m)
 met-verdict h (accepts k v) m = absurd (met-whole m k v)
 
 -- Nothing is wrong with no tokens.
-pub verdict-none : {W M B : List Token → Type 0} {ts : List Token} {A : Type 0} {o : Result A} → Verdict W M B ts o → Fine W M B []
+pub verdict-none : {W M B : List Token → Type 0} {ts : List Token} {A : Type 0} {o : Result A Refusal} → Verdict W M B ts o → Fine W M B []
 verdict-none (refuses (at-token P x us p k w)) = k [] P refl
 verdict-none {ts = ts} (refuses (at-end k n)) = k [] ts refl
 verdict-none {ts = ts} (accepts k h) = k [] ts refl
@@ -147,6 +148,6 @@ met-same : {W M B W' M' B' : List Token → Type 0} → Same W M B W' M' B' → 
 met-same s (at-token P x us p k w) = at-token P x us p (λ Q us q. fine-same s Q (k Q us q)) (wrong-same s (P ++ x ∷ []) w)
 met-same s {ts} (at-end k n) = at-end (λ Q us q. fine-same s Q (k Q us q)) (λ h. n (s.back ts h))
 
-pub verdict-same : {W M B W' M' B' : List Token → Type 0} → Same W M B W' M' B' → {ts : List Token} {A : Type 0} {o : Result A} → Verdict W M B ts o → Verdict W' M' B' ts o
+pub verdict-same : {W M B W' M' B' : List Token → Type 0} → Same W M B W' M' B' → {ts : List Token} {A : Type 0} {o : Result A Refusal} → Verdict W M B ts o → Verdict W' M' B' ts o
 verdict-same s (refuses h) = refuses (met-same s h)
 verdict-same s {ts} (accepts k h) = accepts (λ Q us q. fine-same s Q (k Q us q)) (s.there ts h)

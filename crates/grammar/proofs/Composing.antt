@@ -3,7 +3,7 @@ use mathlib.Core.Path.{◌≡◌, refl, sym, ap, ◌∙◌, subst}
 use mathlib.Core.List.{List, [], ◌∷◌, ◌++◌, head-eq_of_cons-eq, append-nil, append_assoc}
 use Rattle.refusals.specs.declared.Refusal.{Refusal}
 use Rattle.refusals.specs.declared.Refusal.TheVariants.{TooManyNodes, LargeDimension, NotAccepted}
-use Rattle.refusals.specs.Refusals.{Result}
+use Rattle.std.specs.Prelude.{Result}
 use Rattle.text.specs.Tokens.{Token}
 use Rattle.grammar.specs.Meeting.{Begins, Fine, Wrong, no_text, many, large, Kept, Met, at-token, at-end}
 use Rattle.grammar.proofs.Beginnings.{Splits, longer, shorter, splits, front-empty, one_more, Verdict, refuses, accepts, Same, begins-same}
@@ -112,7 +112,7 @@ module _ {L M B W N D Whole : List Token → Type 0} (j : Joins L W Whole) (none
   met-behind A {ts} a k (at-end l n) = at-end (kept-behind A ts a k l) (λ h. let p = j.split (A ++ ts) h in n (subst W (sym (same-front j.ending A ts p.front p.rest a p.before p.is).1) p.such))
 
   -- The answer behind a text of the first.
-  pub verdict-behind : (A : List Token) {ts : List Token} {C : Type 0} {o : Result C} → L A → Kept L M B A → Verdict W N D ts o → Verdict Whole (Limit L M N) (Limit L B D) (A ++ ts) o
+  pub verdict-behind : (A : List Token) {ts : List Token} {C : Type 0} {o : Result C Refusal} → L A → Kept L M B A → Verdict W N D ts o → Verdict Whole (Limit L M N) (Limit L B D) (A ++ ts) o
   verdict-behind A a k (refuses m) = refuses (met-behind A a k m)
   verdict-behind A {ts} a k (accepts l h) = accepts (kept-behind A ts a k l) (j.join (A ++ ts) (record { front = A; rest = ts; is = refl; before = a; such = h }))
 

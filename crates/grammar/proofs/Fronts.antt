@@ -18,14 +18,13 @@ use Rattle.calculus.specs.Parse.{judgement_of}
 use Rattle.calculus.proofs.Fields.{rebuilt}
 use Rattle.kinds.specs.Kinds.{number_of, predicate_of}
 use Rattle.kinds.proofs.KindLaws.{numbered}
-use Rattle.kinds.proofs.TableLaws.{values_of, values-at}
+use Rattle.listing.proofs.LineLaws.{predicate-named}
 use Rattle.text.specs.Tokens.{Token, opening, closing, word, begins_word, tokens}
-use Rattle.text.specs.Words.{place_of}
 use Rattle.text.specs.Grammar.{Number, bare-zero, zero-list, succ-list, Formula, bare-leaf, leaf-list, lit-list, one_list, two-list}
 use Rattle.writing.specs.Texts.{items_text, unary_text, face_text, formula_text}
-use Rattle.listing.specs.Lines.{context_text, field_text, value_texts, predicate_name, judgement_text}
+use Rattle.listing.specs.Lines.{context_text, field_text, value_texts, predicate_name, predicate_names, judgement_text}
 use Rattle.grammar.proofs.Advancing.{leaf-one, bare-is, of-leaf, of-lit, of_one, of_two, zero_is, of_zero, of-succ, word-one}
-use Rattle.grammar.proofs.Lexing.{is_word, word-tokens, items-apart, list-tokens, item-tokens, end-tokens, in_place, in_place-at}
+use Rattle.grammar.proofs.Lexing.{is_word, word-tokens, items-apart, list-tokens, item-tokens, end-tokens, place_of, in_place, in_place-at}
 use Rattle.grammar.proofs.ReadingBack.{number-written, formula-written}
 
 -- By the grammar ---------------------------------------------------------------------------------------
@@ -116,21 +115,16 @@ values-apart (c ∷ cs) xs ys r q e =
 
 -- Judgements -------------------------------------------------------------------------------------------
 
--- The names of the predicates, in their order.
-predicate_names : List (List ℕ)
-predicate_names = values_of (λ i. predicate_name (predicate_of i)) 0 15
-
 -- They are words, and each is found at its own place: a computed test.
 predicates-placed : (in_place predicate_names 0 predicate_names ≡ true) × (length predicate_names ≡ 15)
-unfolding predicate_names text_bytes same_bytes
+unfolding text_bytes same_bytes
 predicates-placed = (refl, refl)
 
 predicate-known : (p : Pred) → (is_word (predicate_name p) ≡ true) × (place_of (predicate_name p) predicate_names ≡ 0 + number_of p)
-unfolding predicate_names
 predicate-known p =
     let n = numbered p in
     let r = in_place-at predicate_names 0 predicate_names (number_of p) predicates-placed.0 (omega (arith, n.1, predicates-placed.1)) in
-    subst (λ (w : List ℕ). (is_word w ≡ true) × (place_of w predicate_names ≡ 0 + number_of p)) (values-at (λ i. predicate_name (predicate_of i)) 15 (number_of p) [] n.1 ∙ ap predicate_name n.0) r
+    subst (λ (w : List ℕ). (is_word w ≡ true) × (place_of w predicate_names ≡ 0 + number_of p)) (predicate-named p) r
 
 -- A predicate is determined by its name.
 predicate-one : (p q : Pred) → predicate_name p ≡ predicate_name q → p ≡ q

@@ -7,8 +7,11 @@ use mathlib.Core.List.{List, [], ◌∷◌, ◌++◌, append_assoc}
 use borrow.Author.Tests.{eqb-true}
 use lib.Dec.{eqb}
 use lib.ListN.{length, get_or}
-use Rattle.text.specs.Tokens.{Token, opening, closing, word, Class, opens, closes, separates, spells, class_of, is_spelling, begins_word, longer, before, tokens}
-use Rattle.text.specs.Words.{place_of}
+use Rattle.text.specs.Tokens.{Token, opening, closing, word, class_of, is_spelling, begins_word, longer, before, tokens}
+use Rattle.text.specs.declared.Class.{Class}
+use Rattle.text.specs.declared.Class.TheVariants.{Opening, Closing, Separator, Spelling}
+use Rattle.std.specs.List.{position_or_len}
+use Rattle.formula.specs.Answers.{same_bytes}
 use Rattle.writing.specs.Texts.{items_text, list_text}
 
 -- Words ------------------------------------------------------------------------------------------------
@@ -22,11 +25,11 @@ is_word (b ∷ (c ∷ l)) = is_spelling (class_of b) && is_word (c ∷ l)
 pub no_true : {A : Type 0} → false ≡ true → A
 no_true e = absurd (let z : ◌≡◌ {A = ℕ} 0 1 = cc in omega arith)
 
-spelling : (x : Class) → is_spelling x ≡ true → x ≡ spells
-spelling opens p = no_true p
-spelling closes p = no_true p
-spelling separates p = no_true p
-spelling spells p = refl
+spelling : (x : Class) → is_spelling x ≡ true → x ≡ Spelling
+spelling Opening p = no_true p
+spelling Closing p = no_true p
+spelling Separator p = no_true p
+spelling Spelling p = refl
 
 -- A word begins inside a word.
 word-begins : (b : ℕ) (l m : List ℕ) → is_word (b ∷ l) ≡ true → begins_word ((b ∷ l) ++ m) ≡ true
@@ -66,6 +69,10 @@ unfolding tokens items_text
 end-tokens rest = refl
 
 -- Names ------------------------------------------------------------------------------------------------
+
+-- The place of a word in a list of names; behind the last where it is none of them.
+abbrev pub place_of : List ℕ → List (List ℕ) → ℕ
+place_of w xs = position_or_len (λ x. same_bytes x w) xs
 
 -- Is each name a word, and found at its own place among all?
 abbrev pub in_place : List (List ℕ) → ℕ → List (List ℕ) → Bool

@@ -6,18 +6,16 @@ use mathlib.Core.Bool.{Bool, true, false, and-eq-true_iff}
 use mathlib.Core.List.{List, [], ◌∷◌, ◌++◌, append_assoc, map, tail-eq_of_cons-eq}
 use borrow.Author.Tests.{leb-true, leb-false}
 use lib.Dec.{leb}
-use lib.ListN.{length, get_or, get_or-map}
+use lib.ListN.{length, get_or, get_or-map, get_or-eq_default}
 use Rattle.formula.specs.Answers.{same_bytes}
 use Rattle.calculus.specs.Judgement.{Step}
-use Rattle.calculus.specs.Table.{Pred, unlisted, table, Listed, text_bytes}
+use Rattle.calculus.specs.Table.{Pred, unlisted, table, entry_of, Listed, text_bytes}
 use Rattle.text.specs.Tokens.{class_of, is_spelling, tokens}
-use Rattle.text.specs.Words.{place_of}
 use Rattle.kinds.specs.Kinds.{entry_as, name_in, name_bytes}
-use Rattle.kinds.proofs.KindLaws.{entry-above, not-unlisted}
-use Rattle.kinds.proofs.TableLaws.{no_name, named}
+use Rattle.kinds.proofs.KindLaws.{not-unlisted}
 use Rattle.writing.specs.Texts.{decimal_text}
 use Rattle.listing.specs.Lines.{judgement_text, references_text, head_text, line_text}
-use Rattle.grammar.proofs.Lexing.{is_word, no_true, in_place, in_place-at}
+use Rattle.grammar.proofs.Lexing.{is_word, no_true, place_of, in_place, in_place-at}
 use Rattle.grammar.proofs.Cutting.{Avoids, cut, decimal-avoids, decimal-one, references-avoid, references-one}
 use Rattle.grammar.proofs.Fronts.{judgements-apart}
 
@@ -44,6 +42,23 @@ name-at k = get_or-map name_in table k unlisted
 
 name-known : (k : ℕ) → k < 75 → (is_word (name_bytes (suc k)) ≡ true) × (place_of (name_bytes (suc k)) kind_names ≡ 0 + k)
 name-known k h = subst (λ (w : List ℕ). (is_word w ≡ true) × (place_of w kind_names ≡ 0 + k)) (name-at k) (in_place-at kind_names 0 kind_names k kinds-placed.0 (omega (arith, kinds-placed.1)))
+
+-- Only kinds have names.
+entry-above : (k : ℕ) → 75 < k → entry_of k ≡ unlisted
+unfolding table
+entry-above zero h = absurd (omega arith)
+entry-above (suc k) h = let n : length table ≡ 75 = refl in get_or-eq_default table unlisted {n = k} (omega (arith, n))
+
+no_name : (k : ℕ) → 75 < k → name_bytes k ≡ []
+unfolding name_bytes
+no_name k h = ap name_in (entry-above k h)
+
+named : (k i : ℕ) → i < length (name_bytes k) → k ≤ 75
+named k i h = go (leb k 75) refl
+  where
+    go : (t : Bool) → leb k 75 ≡ t → k ≤ 75
+    go true e = leb-true k 75 e
+    go false e = absurd (omega (arith, ap length (no_name k (leb-false k 75 e))))
 
 -- No space stands in a word, nor in the name of any number.
 no-space : (b : ℕ) → is_spelling (class_of b) ≡ true → b ≡ 32 → ⊥
@@ -89,7 +104,7 @@ listed-to k n p h = go (leb k 75) refl
   where
     go : (t : Bool) → leb k 75 ≡ t → k ≤ 75
     go true e = leb-true k 75 e
-    go false e = not-unlisted (entry-above k (leb-false k 75 e) ∙ ap entry_as h.listed)
+    go false e = not-unlisted (ap entry_as (sym (entry-above k (leb-false k 75 e)) ∙ h.listed))
 
 -- Lines ------------------------------------------------------------------------------------------------
 

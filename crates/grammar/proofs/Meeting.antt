@@ -7,7 +7,7 @@ use Rattle.formula.specs.declared.Sort.{Sort}
 use Rattle.formula.specs.declared.Sort.TheVariants.{Faces}
 use Rattle.formula.specs.Bytes.{max_bound}
 use Rattle.refusals.specs.declared.Refusal.{Refusal}
-use Rattle.refusals.specs.Refusals.{refused}
+use Rattle.std.specs.Prelude.{Err}
 use Rattle.text.specs.Tokens.{Token, word, tokens}
 use Rattle.text.specs.Words.{succ-word, entails-word}
 use Rattle.text.specs.Grammar.{Number, Formula}
@@ -74,10 +74,10 @@ unfolding read_formula
 formula-verdict s l = verdict-map (λ v. v.0) (verdict-same (only-formula s) (judged-formula s [] judged-none 0 (tokens l)))
 
 -- A text is refused as a formula exactly by what is met first in it.
-pub formula-met : (s : Sort) (l : List ℕ) (e : Refusal) → read_formula s l ≡ refused e → FormulaMet s (tokens l) e
+pub formula-met : (s : Sort) (l : List ℕ) (e : Refusal) → read_formula s l ≡ Err e → FormulaMet s (tokens l) e
 formula-met s l e p = verdict-met (formula-verdict s l) p
 
-pub met-formula : (s : Sort) (l : List ℕ) (e : Refusal) → FormulaMet s (tokens l) e → read_formula s l ≡ refused e
+pub met-formula : (s : Sort) (l : List ℕ) (e : Refusal) → FormulaMet s (tokens l) e → read_formula s l ≡ Err e
 met-formula s l e m = met-verdict (formula-apart s) (formula-verdict s l) m
 
 -- A claim -----------------------------------------------------------------------------------------------
@@ -179,8 +179,8 @@ claim-verdict l =
     (verdict-same whole-claim (judged-claim (number max_bound ∷ formula Faces ∷ formula Faces ∷ []) (judged-number max_bound (formula Faces ∷ formula Faces ∷ []) (judged-formula Faces (formula Faces ∷ []) (judged-formula Faces [] judged-none))) 0 (tokens l)))
 
 -- A text is refused as a claim exactly by what is met first in it.
-pub claim-met : (l : List ℕ) (e : Refusal) → read_claim l ≡ refused e → ClaimMet (tokens l) e
+pub claim-met : (l : List ℕ) (e : Refusal) → read_claim l ≡ Err e → ClaimMet (tokens l) e
 claim-met l e p = verdict-met (claim-verdict l) p
 
-pub met-claim : (l : List ℕ) (e : Refusal) → ClaimMet (tokens l) e → read_claim l ≡ refused e
+pub met-claim : (l : List ℕ) (e : Refusal) → ClaimMet (tokens l) e → read_claim l ≡ Err e
 met-claim l e m = met-verdict claim-apart (claim-verdict l) m

@@ -1,8 +1,9 @@
 -- What the writer prints is read back.
-use Prim.Native.Nat.{ℕ, zero, suc, ◌+◌, ◌-◌, ◌≤◌}
+use Prim.Native.Nat.{ℕ, zero, suc, ◌+◌, ◌-◌, ◌≤◌, ◌<◌}
+use borrow.Author.Tests.{lt-ltb}
 use native.Mathlib.Omega.{arith}
 use mathlib.Core.Path.{◌≡◌, refl, ap, ap₂, ◌∙◌, subst, subst⁻¹}
-use mathlib.Core.Bool.{true, false}
+use mathlib.Core.Bool.{true, false, cond}
 use mathlib.Core.List.{List, [], ◌∷◌, ◌++◌, append_assoc, append-nil}
 use lib.ListN.{length}
 use Rattle.formula.specs.declared.Sort.{Sort}
@@ -10,18 +11,21 @@ use Rattle.formula.specs.declared.Sort.TheVariants.{Faces, Intervals}
 use Rattle.formula.specs.Formula.{Face}
 use Rattle.formula.specs.Bytes.{Tree, leaf, lit, one, two, node_of, nodes, bound, max_nodes, max_bound}
 use Rattle.formula.specs.Answers.{same_bytes}
-use Rattle.formula.proofs.Nodes.{tree-ind, made_as}
+use Rattle.formula.proofs.Nodes.{tree-ind}
 use Rattle.calculus.specs.Table.{text_bytes}
 use Rattle.text.specs.Tokens.{Token, opening, closing, word, begins_word, tokens}
-use Rattle.text.specs.Words.{names, first_kind, kind_named, node_named, zero_word, succ-word, entails-word}
+use Rattle.text.specs.Words.{names, first_kind, kind_named, node_if, node_named, zero_word, succ-word, entails-word}
 use Rattle.text.specs.Grammar.{Number, bare-zero, zero-list, succ-list, Formula, bare-leaf, leaf-list, lit-list, one_list, two-list, Claim, entails}
-use Rattle.refusals.specs.Refusals.{Result, refused, done, map}
+use Rattle.refusals.specs.Refusals.{map}
+use Rattle.refusals.specs.declared.Refusal.{Refusal}
+use Rattle.std.specs.Prelude.{Some, None, option_map, nat_lt, position, Result, Ok, Err}
 use Rattle.text.specs.Reading.{Item, formula, part, number, close, claim, bare_node, max_dim, list_node, run, read_formula, Claimed, read_claim}
 use Rattle.writing.specs.Texts.{items_text, unary_text, face_text, formula_text}
 use Rattle.writing.specs.Writing.{node_name, Names}
 use Rattle.writing.proofs.TextLaws.{spells-as}
 use Rattle.grammar.specs.Claims.{claim_text}
-use Rattle.grammar.proofs.Lexing.{is_word, word-tokens, items-apart, list-tokens, item-tokens, end-tokens, in_place, in_place-at}
+use Rattle.grammar.proofs.Lexing.{is_word, word-tokens, items-apart, list-tokens, item-tokens, end-tokens, place_of, in_place, in_place-at}
+use Rattle.grammar.proofs.Advancing.{named-made}
 use Rattle.grammar.proofs.Accepting.{Within, reads-formula, ClaimWithin, reads-claim}
 
 -- What is printed is a text of the grammar -------------------------------------------------------------
@@ -36,12 +40,19 @@ names-six : (s : Sort) → length (names s) ≡ 6
 names-six Faces = refl
 names-six Intervals = refl
 
+-- A word's place among names.
+placed-at : (w : List ℕ) (xs : List (List ℕ)) (k : ℕ) → place_of w xs ≡ k → k < length xs → position (λ x. same_bytes x w) xs ≡ Some k
+placed-at w xs k e h = ap (λ n. cond (nat_lt n (length xs)) (Some n) None) e ∙ ap (λ t. cond t (Some k) None) (lt-ltb k (length xs) h)
+
 name-known : (s : Sort) (b : ℕ) → Names s b → (is_word (node_name s b) ≡ true) × (node_named s (node_name s b) ≡ node_of s b)
 unfolding kind_named
 name-known s b h =
     let p = in_place-at (names s) 0 (names s) (b - first_kind s) (names-placed s) (omega (arith, h.from, h.below, names-six s)) in
-    let e : kind_named s (node_name s b) ≡ b = omega (arith, h.from, p.1) in
-    (p.0, ap (node_of s) e)
+    let k : first_kind s + (b - first_kind s) ≡ b = omega (arith, h.from) in (
+      p.0,
+      ap (λ o. node_if s (option_map (λ k. first_kind s + k) o)) (placed-at (node_name s b) (names s) (b - first_kind s) (omega (arith, p.1)) (omega (arith, h.from, h.below, names-six s)))
+          ∙ ap (node_of s) k,
+    )
 
 -- The words of numbers are words.
 z_word : is_word zero_word ≡ true
@@ -127,12 +138,12 @@ claim-written d a b rest h =
 -- It is read back --------------------------------------------------------------------------------------
 
 -- The text of a formula within the limits reads as that formula.
-pub formula-back : (s : Sort) (t : Tree s) → Within s t → read_formula s (formula_text s t) ≡ done t
+pub formula-back : (s : Sort) (t : Tree s) → Within s t → read_formula s (formula_text s t) ≡ Ok t
 unfolding tokens
 formula-back s t h = reads-formula s (formula_text s t) t (subst (λ (l : List ℕ). Formula s t (tokens l) []) (append-nil (formula_text s t)) (formula-written s t [] refl)) h
 
 -- The text of a claim within the limits reads as that claim.
-pub claim-back : (c : Claimed) → ClaimWithin c → read_claim (claim_text c.dimensions c.left c.right) ≡ done c
+pub claim-back : (c : Claimed) → ClaimWithin c → read_claim (claim_text c.dimensions c.left c.right) ≡ Ok c
 unfolding tokens
 claim-back c h =
     let l = claim_text c.dimensions c.left c.right in
@@ -141,9 +152,9 @@ claim-back c h =
 -- With anything behind it ------------------------------------------------------------------------------
 
 -- One function behind another.
-map-map : {A B C : Type 0} (f : B → C) (g : A → B) (o : Result A) → map f (map g o) ≡ map (λ x. f (g x)) o
-map-map f g (refused e) = refl
-map-map f g (done x) = refl
+map-map : {A B C : Type 0} (f : B → C) (g : A → B) (o : Result A Refusal) → map f (map g o) ≡ map (λ x. f (g x)) o
+map-map f g (Err e) = refl
+map-map f g (Ok x) = refl
 
 -- Where a number is expected, its text is read, and the reader goes on with what stands behind.
 number-runs : {n : ℕ} {ts us : List Token} → Number n ts us → (k : ℕ) → n ≤ k → (m : ℕ) (K : List Item) → run ts m (number k ∷ K) ≡ map (λ v. (n, v)) (run us m K)
@@ -160,27 +171,27 @@ number-runs (succ-list {n = n} {ts} {us} p d) (suc k) h m K =
 part-runs : {s : Sort} {t : Tree s} {ts us : List Token} → Formula s t ts us → bound s t ≤ max_bound → (n m : ℕ) → m + nodes s t ≡ n → (K : List Item) → run ts n (part s ∷ K) ≡ map (λ v. (t, v)) (run us m K)
 unfolding run
 part-runs {s} (bare-leaf {w} {t} {us} p) h n m e K =
-    let c = made_as s (kind_named s w) (leaf t) p in
+    let c = (named-made s w (leaf t) (λ e. cc) p).1 in
     let z : n ≡ suc m = omega (arith, e, c.count) in
     ap₂ (λ x n. bare_node x n K (run us)) p z
 part-runs {s} (leaf-list {w} {t} {us} p) h n m e K =
-    let c = made_as s (kind_named s w) (leaf t) p in
+    let c = (named-made s w (leaf t) (λ e. cc) p).1 in
     let z : n ≡ suc m = omega (arith, e, c.count) in
     ap₂ (λ x n. list_node s x n K (run (closing ∷ us))) p z
 part-runs {s} (lit-list {w} {g} {n = k} {ts} {us} p d) h n m e K =
-    let c = made_as s (kind_named s w) (lit g) p k in
+    let c = (named-made s w (lit g) (λ e. cc) p).1 k in
     let z : n ≡ suc m = omega (arith, e, c.count) in
     ap₂ (λ x n. list_node s x n K (run ts)) p z
     ∙ ap (map (λ v. (g v.0, v.1))) (number-runs d max_dim (omega (arith, h, c.top)) m (close ∷ K))
     ∙ map-map (λ v. (g v.0, v.1)) (λ v. (k, v)) (run us m K)
 part-runs {s} (one_list {w} {g} {a} {ts} {us} p d) h n m e K =
-    let c = made_as s (kind_named s w) (one g) p a in
+    let c = (named-made s w (one g) (λ e. cc) p).1 a in
     let z : n ≡ suc (m + nodes s a) = omega (arith, e, c.count) in
     ap₂ (λ x n. list_node s x n K (run ts)) p z
     ∙ ap (map (λ v. (g v.0, v.1))) (part-runs d (omega (arith, h, c.top)) (m + nodes s a) m refl (close ∷ K))
     ∙ map-map (λ v. (g v.0, v.1)) (λ v. (a, v)) (run us m K)
 part-runs {s} (two-list {w} {g} {a} {b} {ts} {us} {vs} p d f) h n m e K =
-    let c = made_as s (kind_named s w) (two g) p a b in
+    let c = (named-made s w (two g) (λ e. cc) p).1 a b in
     let z : n ≡ suc (m + nodes s b + nodes s a) = omega (arith, e, c.count) in
     ap₂ (λ x n. list_node s x n K (run ts)) p z
     ∙ ap (map (λ v. (g v.0 v.1.0, v.1.1))) (part-runs d (omega (arith, h, c.top)) (m + nodes s b + nodes s a) (m + nodes s b) refl (part s ∷ close ∷ K) ∙ ap (map (λ v. (a, v))) (part-runs f (omega (arith, h, c.top)) (m + nodes s b) m refl (close ∷ K)))

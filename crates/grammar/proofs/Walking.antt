@@ -10,7 +10,8 @@ use Rattle.formula.specs.Answers.{same_bytes}
 use Rattle.calculus.specs.Table.{text_bytes}
 use Rattle.refusals.specs.declared.Refusal.{Refusal}
 use Rattle.refusals.specs.declared.Refusal.TheVariants.{TooManyNodes, LargeDimension}
-use Rattle.refusals.specs.Refusals.{Result, refused, map}
+use Rattle.refusals.specs.Refusals.{map}
+use Rattle.std.specs.Prelude.{Result, Err}
 use Rattle.text.specs.Tokens
 use Rattle.text.specs.Tokens.{Token, word}
 use Rattle.text.specs.Words.{kind_named, node_named, zero_word, entails-word}
@@ -121,7 +122,7 @@ pub data Lacks : Cost → ℕ → Refusal → Type 0 where
   lacks-node : Lacks node 0 TooManyNodes
   lacks-succ : {n : ℕ} → Lacks (succ 0) n LargeDimension
 
-spend-lacks : {A : Type 0} {c : Cost} {n : ℕ} {e : Refusal} (k : ℕ → Result A) → Lacks c n e → spend c n k ≡ refused e
+spend-lacks : {A : Type 0} {c : Cost} {n : ℕ} {e : Refusal} (k : ℕ → Result A Refusal) → Lacks c n e → spend c n k ≡ Err e
 spend-lacks k lacks-node = refl
 spend-lacks k lacks-succ = refl
 
@@ -167,7 +168,7 @@ abbrev pub Judged : (K : List Item) (M B : List Token → Type 0) → Type 0
 Judged K M B = (n : ℕ) (ts : List Token) → Verdict (Texts K) M B ts (run ts n K)
 
 -- The limits of the item in front and those behind it.
-abbrev pub Response : (f : Item) (K : List Item) (M N B D : List Token → Type 0) → List Token → {A : Type 0} → Result A → Type 0
+abbrev pub Response : (f : Item) (K : List Item) (M N B D : List Token → Type 0) → List Token → {A : Type 0} → Result A Refusal → Type 0
 Response f K M N B D ts o = Verdict (Texts (f ∷ K)) (Limit (Texts (f ∷ [])) M N) (Limit (Texts (f ∷ [])) B D) ts o
 
 module _ {S : Places} {M B : List Token → Type 0} (c : Counts S M B) where

@@ -1,55 +1,48 @@
 -- The parts of a step's line.
 use Prim.Native.Nat.{ℕ, zero, suc, ◌+◌, ◌*◌, ◌/◌, ◌%◌, ◌≤◌, ◌<◌}
 use native.Mathlib.Omega.{arith}
-use native.Mathlib.Nat.{mul-le-mul_left, eq-or-lt_of_le}
-use mathlib.Core.Logic.{⊎_elim}
+use native.Mathlib.Nat.{mul-le-mul_left}
 use native.Mathlib.Numerals.{add-one}
 use mathlib.Core.Path.{◌≡◌, refl, sym, ap, ◌∙◌, subst}
 use mathlib.Core.Bool.{Bool, true, false, ◌&&◌, and-eq-true_iff}
-use mathlib.Core.List.{List, [], ◌∷◌, ◌++◌, map, append-nil}
+use mathlib.Core.List.{List, [], ◌∷◌, ◌++◌, map, append-nil, append_assoc}
 use borrow.Author.Tests.{leb-true, le-leb, lt-ltb, le-ltb}
-use lib.Seq.{sets, length-sets}
 use lib.Dec.{ltb}
-use lib.ListN.{length, get_or, take, drop, replicate, length-replicate, length-append, length-drop, get_or-map}
+use lib.ListN.{length, get_or, take, length-append, length-drop, get_or-map}
 use Rattle.formula.specs.declared.Sort.TheVariants.{Faces, Intervals}
 use Rattle.formula.specs.Formula.{Face}
 use Rattle.formula.specs.Bytes.{bound_face, got, max_nodes, max_bound}
 use Rattle.formula.specs.Answers.{pick}
 use Rattle.calculus.specs.Judgement.{Judgement, Step}
-use Rattle.calculus.specs.Table.{Pred, unlisted, table, entry_of, predicate, text_bytes, p_lt, p_le, p_interval, p_face, p_member, p_take, p_cover, p_entails, p_boundary, p_local, p_fforall, p_ishift, p_isubst, p_fshift, p_fsubst}
+use Rattle.calculus.specs.Table.{Pred, unlisted, table, predicate, text_bytes, p_lt, p_le, p_interval, p_face, p_member, p_take, p_cover, p_entails, p_boundary, p_local, p_fforall, p_ishift, p_isubst, p_fshift, p_fsubst}
 use Rattle.calculus.specs.Rules.{AllBelow, step_at}
 use Rattle.calculus.specs.Record.{Field, number, index, context, end, formula, Value, nodes_in, bound_in, few_nodes, low_bound, belongs, allowed, fields, Values, operands, operand_bytes, all_allowed, bound_context, FormedStep}
 use Rattle.calculus.specs.Search.{nodes_context}
 use Rattle.calculus.specs.Parse.{read_values, read_ledger}
 use Rattle.calculus.proofs.Searching.{nodes-positive}
 use Rattle.calculus.proofs.Fields.{read-values}
-use Rattle.kinds.specs.Kinds.{number_of, predicate_of, name_in, name_bytes, entry_as}
-use Rattle.kinds.specs.declared.Entry.{Entry as RowRead}
-use Rattle.kinds.specs.declared.Entry.TheVariants.{Listed, Unlisted}
-use Rattle.kinds.proofs.KindLaws.{numbered, all_below, below_at, few-references, listed_same, not-unlisted}
+use Rattle.kinds.specs.Kinds.{number_of, predicate_of, name_in, name_bytes, field_as}
+use Rattle.kinds.specs.declared.Field.{Field as Told}
+use Rattle.kinds.proofs.KindLaws.{numbered, all_below, below_at, few-references}
 use Rattle.ledger.specs.Ledger.{steps_of, place_of, Led, Points, steps_in}
 use Rattle.ledger.proofs.LedgerLaws.{formed-at-0, many, place-next, place_end}
 use Rattle.ledger.proofs.PointLaws.{points-entry}
 use Rattle.refusals.specs.declared.Refusal.TheVariants.{IllFormedLedger, ShortOutput}
-use Rattle.refusals.specs.Refusals.{refused, done}
-use Rattle.ledger.specs.Checks.{said_checked, step_count}
-use Rattle.ledger.specs.declared.Checked.{Checked}
-use Rattle.ledger.specs.declared.Checked.TheVariants.{Steps, Ill}
-use Rattle.text.specs.Answers.{delivered, said_length}
+use Rattle.refusals.specs.declared.Refusal.{Refusal}
+use Rattle.std.specs.Prelude.{Result, Ok, Err}
+use Rattle.ledger.specs.Checks.{step_count}
+use Rattle.text.specs.Answers.{delivered}
 use Rattle.text.specs.Wholes.{Delivers}
-use Rattle.text.specs.declared.Length.{Length}
-use Rattle.text.specs.declared.Length.TheVariants.{Bytes, Refused}
 use Rattle.listing.specs.Answers.{line_of, WritesStep}
 use mathlib.Core.Option.{Option, none, some}
-use Rattle.text.proofs.WholeLaws.{made-front}
 use Rattle.writing.specs.Texts.{items_text, face_text, digits_in, decimal_text}
 use Rattle.writing.specs.Writing.{Room, Wrote}
-use Rattle.writing.proofs.WriteLaws.{wrote_as, room_as, room-first}
+use Rattle.writing.proofs.WriteLaws.{wrote_as, wrote-next, room-first, room_next}
 use Rattle.writing.proofs.NumberLaws.{unary-length}
 use Rattle.writing.proofs.TextLaws.{text-long}
-use Rattle.listing.specs.Lines.{context_text, field_text, value_texts, predicate_name, judgement_text, references_text, head_text, line_text}
-use Rattle.listing.specs.Writing.{fields_from, ValuesFront, ValuesPrint, step_of, Shows}
-use Rattle.listing.proofs.ValueLaws.{fields-front, four-fields}
+use Rattle.listing.specs.Lines.{context_text, field_text, value_texts, predicate_name, predicate_names, judgement_text, references_text, head_text, line_text}
+use Rattle.listing.specs.Writing.{field_of, comma_text, ValuesFront, ValuesPrint, step_of, Shows}
+use Rattle.listing.proofs.ValueLaws.{fields-front, fields-told, four-fields}
 
 -- Names ------------------------------------------------------------------------------------------------
 
@@ -62,69 +55,68 @@ unfolding name_bytes
 name-short zero = omega arith
 name-short (suc k) = omega (arith, get_or-map (λ x. length (name_in x)) table k unlisted, below_at 17 (map (λ x. length (name_in x)) table) k (omega arith) short-names)
 
--- A name in front of scratch bytes.
-module _ (k : ℕ) {m : List ℕ} {n : ℕ} (w : m ≡ sets (replicate 16 0) 0 (name_bytes k)) (e : n ≡ length (name_bytes k)) where
-  pub name-fits : n ≤ length m
-  name-fits = omega (arith, name-short k, ap length w ∙ length-sets (replicate 16 0) 0 (name_bytes k), length-replicate {A = ℕ} 16 0)
-
-  pub name-made : take n m ≡ name_bytes k
-  name-made = ap (take n) w ∙ made-front (name_bytes k) (replicate 16 0) e (omega (arith, name-short k, length-replicate {A = ℕ} 16 0))
-
--- A number that is none of those below.
-pub past : (n : ℕ) {j : ℕ} → n ≤ j → (j ≡ n → ⊥) → suc n ≤ j
-past n h k = omega (arith, h, k)
-
-pub predicate-room : {p k to : ℕ} → p ≡ k → Room to (predicate_name (predicate_of p)) → Room to (predicate_name (predicate_of k))
-predicate-room e h = room_as (ap (λ (p : ℕ). predicate_name (predicate_of p)) e) h
-
-pub predicate-wrote : {p k to r : ℕ} {out out' : List ℕ} → p ≡ k → Wrote (predicate_name (predicate_of k)) out to r out' → Wrote (predicate_name (predicate_of p)) out to r out'
-predicate-wrote e h = wrote_as (ap (λ (p : ℕ). predicate_name (predicate_of p)) (sym e)) h
+-- The names of the predicates, by their numbers.
+pub predicate-named : (p : Pred) → get_or predicate_names (number_of p) [] ≡ predicate_name p
+predicate-named p_lt = refl
+predicate-named p_le = refl
+predicate-named p_interval = refl
+predicate-named p_face = refl
+predicate-named p_member = refl
+predicate-named p_take = refl
+predicate-named p_cover = refl
+predicate-named p_entails = refl
+predicate-named p_boundary = refl
+predicate-named p_local = refl
+predicate-named p_fforall = refl
+predicate-named p_ishift = refl
+predicate-named p_isubst = refl
+predicate-named p_fshift = refl
+predicate-named p_fsubst = refl
 
 -- References -------------------------------------------------------------------------------------------
 
-pub no-references : (is : List ℕ) (j : ℕ) → length is ≤ j → references_text (drop j is) ≡ []
+-- One reference more.
+references-more : (is : List ℕ) (j : ℕ) → j < length is → references_text (take (suc j) is) ≡ references_text (take j is) ++ (comma_text j ++ decimal_text (get_or is j 0))
 unfolding references_text
-no-references [] zero h = refl
-no-references [] (suc j) h = refl
-no-references (i ∷ is) zero h = absurd (omega arith)
-no-references (i ∷ is) (suc j) h = no-references is j (omega arith)
+references-more [] j h = absurd (omega arith)
+references-more (i ∷ is) zero h = refl
+references-more (i ∷ []) (suc j) h = absurd (omega arith)
+references-more (i ∷ (e ∷ is)) (suc zero) h = refl
+references-more (i ∷ (e ∷ is)) (suc (suc j)) h =
+    ap (λ x. decimal_text i ++ (44 ∷ x)) (references-more (e ∷ is) (suc j) (omega arith))
+    ∙ sym (append_assoc (decimal_text i) (44 ∷ references_text (take (suc j) (e ∷ is))) (44 ∷ decimal_text (get_or is j 0)))
 
-pub last-reference : (is : List ℕ) (j : ℕ) → j < length is → length is ≤ j + 1 → references_text (drop j is) ≡ decimal_text (get_or is j 0)
+references-part : (is : List ℕ) (j : ℕ) → length (references_text (take j is)) ≤ length (references_text is)
 unfolding references_text
-last-reference [] j h k = absurd (omega arith)
-last-reference (i ∷ []) zero h k = refl
-last-reference (i ∷ (e ∷ is)) zero h k = absurd (omega arith)
-last-reference (i ∷ is) (suc j) h k = last-reference is j (omega arith) (omega arith)
+references-part [] zero = omega arith
+references-part [] (suc j) = omega arith
+references-part (i ∷ is) zero = omega arith
+references-part (i ∷ []) (suc zero) = omega arith
+references-part (i ∷ []) (suc (suc j)) = omega arith
+references-part (i ∷ (e ∷ is)) (suc zero) = omega (arith, length-append (decimal_text i) (44 ∷ references_text (e ∷ is)))
+references-part (i ∷ (e ∷ is)) (suc (suc j)) =
+    omega (arith, references-part (e ∷ is) (suc j), length-append (decimal_text i) (44 ∷ references_text (e ∷ is)), length-append (decimal_text i) (44 ∷ references_text (e ∷ take j is)))
 
-more-references : (is : List ℕ) (j : ℕ) → j + 1 < length is → references_text (drop j is) ≡ decimal_text (get_or is j 0) ++ (44 ∷ references_text (drop (suc j) is))
-unfolding references_text
-more-references [] j h = absurd (omega arith)
-more-references (i ∷ []) zero h = absurd (omega arith)
-more-references (i ∷ (e ∷ is)) zero h = refl
-more-references (i ∷ is) (suc j) h = more-references is j (omega arith)
+module _ (is : List ℕ) (j : ℕ) {out out' : List ℕ} {to at : ℕ} (h : j < length is) (r : Room to (references_text is)) (w : Wrote (references_text (take j is)) out to at out') where
+  -- What is written next: a comma, but not in front of the first, and a reference.
+  reference-room : Room at (comma_text j ++ decimal_text (get_or is j 0))
+  reference-room =
+      record { fits = omega (arith, r.fits, w.end, references-part is (suc j), ap length (references-more is j h), length-append (references_text (take j is)) (comma_text j ++ decimal_text (get_or is j 0))) }
 
-pub some-reference : (is : List ℕ) (j : ℕ) {to : ℕ} → j < length is → Room to (references_text (drop j is)) → Room to (decimal_text (get_or is j 0))
-some-reference is j h r =
-    ⊎_elim (λ e. room_as (last-reference is j h (omega arith)) r) (λ k. room-first (decimal_text (get_or is j 0)) (44 ∷ references_text (drop (suc j) is)) (room_as (more-references is j (omega arith)) r))
-    (eq-or-lt_of_le {n = suc j} {m = length is} (omega arith))
+  pub comma-room : Room at (comma_text j)
+  comma-room = room-first (comma_text j) (decimal_text (get_or is j 0)) reference-room
 
-pub next-reference : (is : List ℕ) (j : ℕ) → j + 1 < length is → references_text (drop j is) ≡ decimal_text (get_or is j 0) ++ (44 ∷ references_text (drop (j + 1) is))
-next-reference is j h = more-references is j h ∙ ap (λ (k : ℕ). decimal_text (get_or is j 0) ++ (44 ∷ references_text (drop k is))) (sym (add-one j))
+  module _ {a : ℕ} {out₁ : List ℕ} (v : Wrote (comma_text j) out' at a out₁) where
+    pub decimal-room : Room a (decimal_text (get_or is j 0))
+    decimal-room = room_next (decimal_text (get_or is j 0)) reference-room v
 
-pub counted : {l : List ℕ} {step at n p : ℕ} {r : RowRead} → Points l step at → {k : ℕ} → k ≡ (step_of l step).kind → r ≡ entry_as (entry_of k) → r ≡ Listed n p → n ≡ length (step_of l step).references
-counted h e f g = (listed_same (sym g ∙ f ∙ ap (λ (k : ℕ). entry_as (entry_of k)) e ∙ points-entry h)).0
-
-pub not-counted : {A : Type 0} {l : List ℕ} {step at : ℕ} {r : RowRead} → Points l step at → {k : ℕ} → k ≡ (step_of l step).kind → r ≡ entry_as (entry_of k) → r ≡ Unlisted → A
-not-counted h e f g = not-unlisted (sym g ∙ f ∙ ap (λ (k : ℕ). entry_as (entry_of k)) e ∙ points-entry h)
-
-drop-zero : {A : Type 0} (l : List A) → drop 0 l ≡ l
-drop-zero [] = refl
-drop-zero (x ∷ l) = refl
+    pub reference-wrote : {b : ℕ} {out₂ : List ℕ} → Wrote (decimal_text (get_or is j 0)) out₁ a b out₂ → Wrote (references_text (take (j + 1) is)) out to b out₂
+    reference-wrote u = wrote_as (sym (references-more is j h) ∙ ap (λ k. references_text (take k is)) (sym (add-one j))) (wrote-next w (wrote-next v u))
 
 -- What stands before the judgement, from its parts.
-pub head-is : (i : ℕ) (s : Step) → decimal_text i ++ (32 ∷ name_bytes s.kind ++ ((32 ∷ 91 ∷ []) ++ (references_text (drop 0 s.references) ++ (93 ∷ 32 ∷ [])))) ≡ head_text i s
+pub head-is : (i : ℕ) (s : Step) → decimal_text i ++ (32 ∷ name_bytes s.kind ++ ((32 ∷ 91 ∷ []) ++ (references_text s.references ++ (93 ∷ 32 ∷ [])))) ≡ head_text i s
 unfolding head_text
-head-is i s = ap (λ (is : List ℕ). decimal_text i ++ (32 ∷ name_bytes s.kind ++ (32 ∷ 91 ∷ references_text is ++ (93 ∷ 32 ∷ [])))) (drop-zero s.references)
+head-is i s = refl
 
 -- Judgements -------------------------------------------------------------------------------------------
 
@@ -132,26 +124,23 @@ pub formed : {l : List ℕ} {step at : ℕ} → Points l step at → FormedStep 
 formed {step = step} h = formed-at-0 h.led step h.inside
 
 module _ (j : Judgement) {p : ℕ} (e : p ≡ number_of (predicate j)) where
-  predicate-is : predicate_name (predicate_of p) ≡ predicate_name (predicate j)
-  predicate-is = ap predicate_name (ap predicate_of e ∙ (numbered (predicate j)).0)
-
   -- The text of a judgement, from its predicate's number.
-  pub judgement-is : 40 ∷ predicate_name (predicate_of p) ++ items_text (value_texts (fields (predicate j)) (operands j)) ≡ judgement_text j
+  pub judgement-is : 40 ∷ get_or predicate_names p [] ++ items_text (value_texts (fields (predicate j)) (operands j)) ≡ judgement_text j
   unfolding judgement_text
-  judgement-is = ap (λ (n : List ℕ). 40 ∷ n ++ items_text (value_texts (fields (predicate j)) (operands j))) predicate-is
+  judgement-is = ap (λ (n : List ℕ). 40 ∷ n ++ items_text (value_texts (fields (predicate j)) (operands j))) (ap (λ p. get_or predicate_names p []) e ∙ predicate-named (predicate j))
 
-module _ (j : Judgement) {p : ℕ} {x : List ℕ} (e : p ≡ number_of (predicate j)) (i : x ≡ operand_bytes j) where
-  all-fields : fields_from p 0 ≡ fields (predicate j)
-  all-fields = drop-zero (fields (predicate_of p)) ∙ ap fields (ap predicate_of e ∙ (numbered (predicate j)).0)
+module _ (j : Judgement) {p : ℕ} {x : List ℕ} {ks : List Told} (e : p ≡ number_of (predicate j)) (f : ks ≡ map field_as (fields (predicate_of p))) (i : x ≡ operand_bytes j) where
+  all-fields : map field_of ks ≡ fields (predicate j)
+  all-fields = ap (map field_of) f ∙ fields-told (fields (predicate_of p)) ∙ ap fields (ap predicate_of e ∙ (numbered (predicate j)).0)
 
   module _ (a : all_allowed (fields (predicate j)) (operands j) ≡ true) where
     reads-operands : read_values (fields (predicate j)) x ≡ got (operands j) []
     reads-operands = ap (read_values (fields (predicate j))) (i ∙ sym (append-nil (operand_bytes j))) ∙ read-values (fields (predicate j)) (operands j) [] a
 
-    pub operands-front : {to : ℕ} → Room to (items_text (value_texts (fields (predicate j)) (operands j))) → ValuesFront (fields_from p 0) x to
+    pub operands-front : {to : ℕ} → Room to (items_text (value_texts (fields (predicate j)) (operands j))) → ValuesFront (map field_of ks) x to
     operands-front {to} r = fields-front (sym all-fields) (record { value = operands j; rest = []; reads = reads-operands; room = r })
 
-    pub operands-wrote : {out out' : List ℕ} {to r : ℕ} → ValuesPrint (fields_from p 0) x out to r out' → Wrote (items_text (value_texts (fields (predicate j)) (operands j))) out to r out'
+    pub operands-wrote : {out out' : List ℕ} {to r : ℕ} → ValuesPrint (map field_of ks) x out to r out' → Wrote (items_text (value_texts (fields (predicate j)) (operands j))) out to r out'
     operands-wrote {out} {out'} {to} {r} h = (subst (λ (cs : List Field). ValuesPrint cs x out to r out') all-fields h).it (operands j) [] reads-operands
 
 -- How long a line can be -------------------------------------------------------------------------------
@@ -250,7 +239,7 @@ unfolding line_text
 line-short {l} {step} h =
     let s = step_of l step in
     let f = formed h in
-    let k = few-references s.kind (length s.references) (number_of (predicate s.judgement)) (sym (points-entry h)) in
+    let k = few-references s.kind (record { references = length s.references; predicate = number_of (predicate s.judgement) }) (sym (points-entry h)) in
     let b : step ≤ length l = omega (arith, many (steps_of l) step h.inside, place-next (steps_of l) step h.inside, place_end (steps_of l) step h.inside, h.led.fits) in
     omega (
       arith,
@@ -277,29 +266,30 @@ line-shows {l} {i} {step} {at} h k e f =
     record { points = p; room = line-room p }
 
 -- What is answered of a step, by the check of the ledger.
-module _ {l : List ℕ} {r : Checked} (e : said_checked r ≡ step_count (read_ledger l)) where
-  pub step-ill : (i : ℕ) (out : List ℕ) → r ≡ Ill → WritesStep l i out (Refused IllFormedLedger) out
-  step-ill i out h = record { equal = go (read_ledger l) (sym e ∙ ap said_checked h) }
+module _ {l : List ℕ} where
+  pub step-ill : (i : ℕ) (out : List ℕ) {q : Refusal} → Err q ≡ step_count (read_ledger l) → WritesStep l i out (Err q) out
+  step-ill i out {q} e = record { equal = go (read_ledger l) (sym e) }
     where
-      go : (o : Option (List Step)) → step_count o ≡ refused IllFormedLedger → delivered (line_of o i) out ≡ record { answer = refused IllFormedLedger; output = out }
-      go none k = refl
-      go (some L) k = absurd (let z : ◌≡◌ {A = ℕ} 0 1 = cc in omega arith)
+      go : (o : Option (List Step)) → step_count o ≡ Err q → delivered (line_of o i) out ≡ record { answer = Err q; output = out }
+      go none k = ap (λ q. record { answer = Err q; output = out }) (let z : IllFormedLedger ≡ q = cc in z)
+      go (some L) k = cc
 
-  pub step_past : (i : ℕ) (out : List ℕ) {n : ℕ} → r ≡ Steps n → n ≤ i → WritesStep l i out (Bytes 0) out
-  step_past i out {n} h k = record { equal = go (read_ledger l) (sym e ∙ ap said_checked h) }
-    where
-      go : (o : Option (List Step)) → step_count o ≡ done n → delivered (line_of o i) out ≡ record { answer = done 0; output = out }
-      go none q = absurd (let z : ◌≡◌ {A = ℕ} 0 1 = cc in omega arith)
-      go (some L) q =
-          let m : length L ≡ n = cc in
-          ap (λ (t : Bool). delivered (done (pick t (line_text i (step_at L i)) [])) out) (le-ltb i (length L) (omega arith)) ∙ ap (λ (t : Bool). pick t (record { answer = done 0; output = out }) (record { answer = refused ShortOutput; output = out })) (le-leb 0 (length out) (omega arith))
+  module _ {n : ℕ} (e : Ok n ≡ step_count (read_ledger l)) where
+    pub step_past : (i : ℕ) (out : List ℕ) → n ≤ i → WritesStep l i out (Ok 0) out
+    step_past i out k = record { equal = go (read_ledger l) (sym e) }
+      where
+        go : (o : Option (List Step)) → step_count o ≡ Ok n → delivered (line_of o i) out ≡ record { answer = Ok 0; output = out }
+        go none q = cc
+        go (some L) q =
+            let m : length L ≡ n = cc in
+            ap (λ (t : Bool). delivered (Ok (pick t (line_text i (step_at L i)) [])) out) (le-ltb i (length L) (omega arith)) ∙ ap (λ (t : Bool). pick t (record { answer = Ok 0; output = out }) (record { answer = Err ShortOutput; output = out })) (le-leb 0 (length out) (omega arith))
 
-  pub step_in : (i : ℕ) {out out' : List ℕ} {x : Length} {n : ℕ} → r ≡ Steps n → i < n → Delivers (line_text i (step_of l i)) out x out' → WritesStep l i out x out'
-  unfolding steps_of
-  step_in i {out} {out'} {x} {n} h k d = record { equal = go (read_ledger l) refl (sym e ∙ ap said_checked h) }
-    where
-      go : (o : Option (List Step)) → read_ledger l ≡ o → step_count o ≡ done n → delivered (line_of o i) out ≡ record { answer = said_length x; output = out' }
-      go none i q = absurd (let z : ◌≡◌ {A = ℕ} 0 1 = cc in omega arith)
-      go (some L) j q =
-          let m : length L ≡ n = cc in
-          ap (λ (t : Bool). delivered (done (pick t (line_text i (step_at L i)) [])) out) (lt-ltb i (length L) (omega arith)) ∙ ap (λ (o : Option (List Step)). delivered (done (line_text i (step_at (steps_in o) i))) out) (sym j) ∙ d.equal
+    pub step_in : (i : ℕ) {out out' : List ℕ} {x : Result ℕ Refusal} → i < n → Delivers (line_text i (step_of l i)) out x out' → WritesStep l i out x out'
+    unfolding steps_of
+    step_in i {out} {out'} {x} k d = record { equal = go (read_ledger l) refl (sym e) }
+      where
+        go : (o : Option (List Step)) → read_ledger l ≡ o → step_count o ≡ Ok n → delivered (line_of o i) out ≡ record { answer = x; output = out' }
+        go none i q = cc
+        go (some L) j q =
+            let m : length L ≡ n = cc in
+            ap (λ (t : Bool). delivered (Ok (pick t (line_text i (step_at L i)) [])) out) (lt-ltb i (length L) (omega arith)) ∙ ap (λ (o : Option (List Step)). delivered (Ok (line_text i (step_at (steps_in o) i))) out) (sym j) ∙ d.equal

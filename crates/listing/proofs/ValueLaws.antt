@@ -1,11 +1,10 @@
 -- Numbers, contexts and operands in front of bytes, and their texts.
 use Prim.Native.Nat.{ℕ, zero, suc, ◌+◌, ◌-◌, ◌≤◌}
 use native.Mathlib.Omega.{arith}
-use native.Mathlib.Numerals.{add-one}
-use mathlib.Core.Path.{◌≡◌, refl, sym, ap, ◌∙◌, subst}
+use mathlib.Core.Path.{◌≡◌, refl, sym, ap, ap₂, ◌∙◌, subst}
 use mathlib.Core.Bool.{Bool, true, false}
 use mathlib.Core.List.{List, [], ◌∷◌, ◌++◌, map}
-use lib.ListN.{length, get_or, take, drop, length-drop}
+use lib.ListN.{length, take, drop, length-drop}
 use lib.Seq.{drop-drop}
 use Rattle.formula.specs.declared.Sort.TheVariants.{Faces, Intervals}
 use Rattle.formula.specs.Formula.{Face}
@@ -16,17 +15,15 @@ use Rattle.calculus.specs.Record.{Field, number, index, context, end, formula, a
 use Rattle.calculus.specs.Parse.{only, read_field, read_faces, read_values}
 use Rattle.records.specs.Places.{little_at}
 use Rattle.records.proofs.PlaceLaws.{little-at, little-short}
-use Rattle.kinds.specs.Kinds.{predicate_of, field_as, field_at}
+use Rattle.kinds.specs.Kinds.{field_as}
 use Rattle.kinds.specs.declared.Field.{Field as Told}
-use Rattle.kinds.specs.declared.Field.TheVariants.{Number, Index, Context, End, Interval, Nothing}
-use Rattle.kinds.specs.declared.Field.TheVariants
 use Rattle.writing.specs.Texts.{items_text, unary_text, face_text}
 use Rattle.writing.specs.Writing.{Room, Wrote, FormulaFronts, FormulaPrints}
 use Rattle.writing.specs.declared.Place.{Place}
 use Rattle.writing.proofs.WriteLaws.{wrote-next, wrote_as, room_as, room-first, room_next}
 use Rattle.writing.proofs.FormulaLaws.{part-rest}
 use Rattle.listing.specs.Lines.{context_text, field_text, value_texts}
-use Rattle.listing.specs.Writing.{NumberFronts, NumberPrints, FacesFront, FacesPrint, ContextFronts, ContextPrints, no_field, field_of, FieldFronts, FieldPrints, fields_from, ValuesFront, ValuesPrint}
+use Rattle.listing.specs.Writing.{NumberFronts, NumberPrints, FacesFront, FacesPrint, ContextFronts, ContextPrints, field_of, FieldFronts, FieldPrints, ValuesFront, ValuesPrint}
 
 -- What was read was read in turn.
 pub record Turned {A B : Type 0} (r : Got A) (k : A → List ℕ → Got B) (b : B) (m : List ℕ) : Type 0 where
@@ -199,48 +196,11 @@ field-of end = refl
 field-of (formula Faces) = refl
 field-of (formula Intervals) = refl
 
-not-nothing : (c : Field) {A : Type 0} → field_as c ≡ Nothing → A
-not-nothing number e = absurd (let z : ◌≡◌ {A = ℕ} 0 1 = cc in omega arith)
-not-nothing index e = absurd (let z : ◌≡◌ {A = ℕ} 0 1 = cc in omega arith)
-not-nothing context e = absurd (let z : ◌≡◌ {A = ℕ} 0 1 = cc in omega arith)
-not-nothing end e = absurd (let z : ◌≡◌ {A = ℕ} 0 1 = cc in omega arith)
-not-nothing (formula Faces) e = absurd (let z : ◌≡◌ {A = ℕ} 0 1 = cc in omega arith)
-not-nothing (formula Intervals) e = absurd (let z : ◌≡◌ {A = ℕ} 0 1 = cc in omega arith)
-
-true-false : true ≡ false → ⊥
-true-false e = let z : ◌≡◌ {A = ℕ} 0 1 = cc in omega arith
-
-nothing-told : (k : Told) → no_field k ≡ true → k ≡ Nothing
-nothing-told Number e = absurd (true-false (sym e))
-nothing-told Index e = absurd (true-false (sym e))
-nothing-told Context e = absurd (true-false (sym e))
-nothing-told End e = absurd (true-false (sym e))
-nothing-told TheVariants.Face e = absurd (true-false (sym e))
-nothing-told Interval e = absurd (true-false (sym e))
-nothing-told Nothing e = refl
-
--- Field j is the first of the fields from j on, or there is none.
-none_from : (cs : List Field) (j : ℕ) → get_or (map field_as cs) j Nothing ≡ Nothing → drop j cs ≡ []
-none_from [] zero e = refl
-none_from [] (suc j) e = refl
-none_from (c ∷ cs) zero e = not-nothing c e
-none_from (c ∷ cs) (suc j) e = none_from cs j e
-
-first-from : (cs : List Field) (j : ℕ) (k : Told) → get_or (map field_as cs) j Nothing ≡ k → (k ≡ Nothing → ⊥) → drop j cs ≡ field_of k ∷ drop (suc j) cs
-first-from [] zero k e n = absurd (n (sym e))
-first-from [] (suc j) k e n = absurd (n (sym e))
-first-from (c ∷ cs) zero k e n = ap (λ (x : Field). x ∷ cs) (sym (field-of c) ∙ ap field_of e)
-first-from (c ∷ cs) (suc j) k e n = first-from cs j k e n
+pub fields-told : (cs : List Field) → map field_of (map field_as cs) ≡ cs
+fields-told [] = refl
+fields-told (c ∷ cs) = ap₂ ◌∷◌ (field-of c) (fields-told cs)
 
 -- Operands ---------------------------------------------------------------------------------------------
-
-pub no-field : (p j : ℕ) {k : Told} {t : Bool} → k ≡ field_at p j → t ≡ no_field k → t ≡ true → fields_from p j ≡ []
-unfolding field_at
-no-field p j {k} e i h = none_from (fields (predicate_of p)) j (sym e ∙ nothing-told k (sym i ∙ h))
-
-pub next_field : (p j : ℕ) {k : Told} {t : Bool} → k ≡ field_at p j → t ≡ no_field k → t ≡ false → fields_from p j ≡ field_of k ∷ fields_from p (j + 1)
-unfolding field_at
-next_field p j {k} e i h = first-from (fields (predicate_of p)) j k (sym e) (λ n. true-false (ap no_field (sym n) ∙ sym i ∙ h)) ∙ ap (λ (i : ℕ). field_of k ∷ drop i (fields (predicate_of p))) (sym (add-one j))
 
 pub record ValueShown (c : Field) (cs : List Field) (l : List ℕ) (xs : Values (c ∷ cs)) (m : List ℕ) : Type 0 where
   pub behind : List ℕ
@@ -319,9 +279,6 @@ four-fields p_ishift = refl
 four-fields p_isubst = refl
 four-fields p_fshift = refl
 four-fields p_fsubst = refl
-
-pub fields-end : (p : ℕ) {j : ℕ} → j ≡ 4 → fields_from p j ≡ []
-fields-end p e = ap (λ (j : ℕ). drop j (fields (predicate_of p))) e ∙ four-fields (predicate_of p)
 
 pub values-part : {cs : List Field} (n : ℕ) (l : List ℕ) {out out' : List ℕ} {to r : ℕ} → ValuesPrint cs (take (length l - n) (drop n l)) out to r out' → ValuesPrint cs (drop n l) out to r out'
 values-part {cs} n l {out} {out'} {to} {r} h = subst (λ (m : List ℕ). ValuesPrint cs m out to r out') (part-rest n l) h

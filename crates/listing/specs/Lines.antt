@@ -1,6 +1,6 @@
 -- The listing (document 01, "Text and listing"): each step is a line, NUMBER RULE [REFERENCES] JUDGEMENT.
 -- A comma is byte 44, [ 91, ] 93, a space 32, and byte 10 ends a line.
-use Rattle.std.specs.Prelude.{ℕ, List, [], ◌∷◌, ◌++◌}
+use Rattle.std.specs.Prelude.{ℕ, List, [], ◌∷◌, ◌++◌, map}
 use Rattle.formula.specs.Formula.{Face}
 use Rattle.calculus.specs.Judgement.{Judgement, Step}
 use Rattle.calculus.specs.Table.{Pred, p_lt, p_le, p_interval, p_face, p_member, p_take, p_cover, p_entails, p_boundary, p_local, p_fforall, p_ishift, p_isubst, p_fshift, p_fsubst, predicate, text_bytes}
@@ -43,6 +43,10 @@ predicate_name p_ishift = text_bytes "ishift"
 predicate_name p_isubst = text_bytes "isubst"
 predicate_name p_fshift = text_bytes "fshift"
 predicate_name p_fsubst = text_bytes "fsubst"
+
+-- The names of the predicates, in document 01's order.
+abbrev pub predicate_names : List (List ℕ)
+predicate_names = map predicate_name (p_lt ∷ p_le ∷ p_interval ∷ p_face ∷ p_member ∷ p_take ∷ p_cover ∷ p_entails ∷ p_boundary ∷ p_local ∷ p_fforall ∷ p_ishift ∷ p_isubst ∷ p_fshift ∷ p_fsubst ∷ [])
 
 -- A judgement: its predicate and its operands, in printed order.
 unfoldable pub judgement_text : Judgement → List ℕ

@@ -1,15 +1,14 @@
 -- For private contracts and for the crates above: operands and lines, written at a place of an output.
-use Rattle.std.specs.Prelude.{ℕ, ◌≡◌, Bool, true, false, List, drop}
+use Rattle.std.specs.Prelude.{ℕ, zero, suc, ◌≡◌, List, [], ◌∷◌}
 use Rattle.formula.specs.declared.Sort.TheVariants.{Faces, Intervals}
 use Rattle.formula.specs.Bytes.{got, take_dim}
 use Rattle.calculus.specs.Judgement.{Step}
 use Rattle.calculus.specs.Record
-use Rattle.calculus.specs.Record.{fields, Values}
+use Rattle.calculus.specs.Record.{Values}
 use Rattle.calculus.specs.Rules.{step_at}
 use Rattle.calculus.specs.Parse.{read_field, read_faces, read_values}
-use Rattle.kinds.specs.Kinds.{predicate_of}
 use Rattle.kinds.specs.declared.Field.{Field}
-use Rattle.kinds.specs.declared.Field.TheVariants.{Number, Index, Context, End, Face, Interval, Nothing}
+use Rattle.kinds.specs.declared.Field.TheVariants.{Number, Index, Context, End, Face, Interval}
 use Rattle.ledger.specs.Ledger.{steps_of, Points}
 use Rattle.writing.specs.Texts.{items_text, unary_text}
 use Rattle.writing.specs.Writing.{Room, Wrote, Fronts, Prints}
@@ -35,7 +34,7 @@ ContextFronts l to = Fronts (read_field Record.context) context_text l to
 abbrev pub ContextPrints : List ℕ → List ℕ → ℕ → Place → List ℕ → Type 0
 ContextPrints l out to r out' = Prints (read_field Record.context) context_text l out to r out'
 
--- The field that is told; a number where there is none.
+-- The field that is told.
 abbrev pub field_of : Field → Record.Field
 field_of Number = Record.number
 field_of Index = Record.index
@@ -43,17 +42,6 @@ field_of Context = Record.context
 field_of End = Record.end
 field_of Face = Record.formula Faces
 field_of Interval = Record.formula Intervals
-field_of Nothing = Record.number
-
--- Is there no such field?
-abbrev pub no_field : Field → Bool
-no_field Number = false
-no_field Index = false
-no_field Context = false
-no_field End = false
-no_field Face = false
-no_field Interval = false
-no_field Nothing = true
 
 abbrev pub FieldFronts : Record.Field → List ℕ → ℕ → Type 0
 FieldFronts c l to = Fronts (read_field c) (field_text c) l to
@@ -61,16 +49,17 @@ FieldFronts c l to = Fronts (read_field c) (field_text c) l to
 abbrev pub FieldPrints : Record.Field → List ℕ → List ℕ → ℕ → Place → List ℕ → Type 0
 FieldPrints c l out to r out' = Prints (read_field c) (field_text c) l out to r out'
 
--- The fields of a predicate from field j on.
-abbrev pub fields_from : ℕ → ℕ → List Record.Field
-fields_from p j = drop j (fields (predicate_of p))
-
 -- Values in front of the bytes, with room for their texts; and that these were written.
 abbrev pub ValuesFront : List Record.Field → List ℕ → ℕ → Type 0
 ValuesFront cs l to = Fronts (read_values cs) (λ xs. items_text (value_texts cs xs)) l to
 
 pub record ValuesPrint (cs : List Record.Field) (l out : List ℕ) (to r : ℕ) (out' : List ℕ) : Type 0 where
   pub it : (xs : Values cs) (m : List ℕ) → read_values cs l ≡ got xs m → Wrote (items_text (value_texts cs xs)) out to r out'
+
+-- What stands in front of reference j.
+abbrev pub comma_text : ℕ → List ℕ
+comma_text zero = []
+comma_text (suc j) = 44 ∷ []
 
 -- The step that a cursor points at.
 abbrev pub step_of : List ℕ → ℕ → Step

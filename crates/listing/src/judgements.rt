@@ -1,10 +1,9 @@
 // Judgements: the name of the predicate and its operands, in document 01's printed order.
-ghost use Rattle.std.specs.Prelude.{◌≡◌, ◌≤◌, ◌<◌};
-ghost use Rattle.kinds.specs.Kinds.{predicate_of};
+ghost use Rattle.std.specs.Prelude.{◌≡◌, ◌<◌, [], map, get_or};
 ghost use Rattle.calculus.specs.Judgement.{Step};
 ghost use Rattle.writing.specs.Writing.{Room, Wrote};
-ghost use Rattle.listing.specs.Lines.{predicate_name, judgement_text};
-ghost use Rattle.listing.specs.Writing.{NumberFronts, NumberPrints, FacesFront, FacesPrint, ContextFronts, ContextPrints, no_field, field_of, FieldFronts, FieldPrints, fields_from, ValuesFront, ValuesPrint, step_of, Shows};
+ghost use Rattle.listing.specs.Lines.{predicate_names, judgement_text};
+ghost use Rattle.listing.specs.Writing.{NumberFronts, NumberPrints, FacesFront, FacesPrint, ContextFronts, ContextPrints, field_of, FieldFronts, FieldPrints, ValuesFront, ValuesPrint, step_of, Shows};
 
 use formula::Sort;
 use kinds::Field;
@@ -36,12 +35,12 @@ fn faces(n: usize, f: &[u8], out: &mut [u8], to: usize) -> Place
     }
     let a = writing::put(b"(fc ", out, to);
     let p = writing::formula(Sort::Faces, f, out, a);
-    let b = writing::put_byte(32, out, p.to);
+    let b = writing::put_byte(b' ', out, p.to);
     let m = p.at;
     let q = faces(n - 1, &f[m..], out, b);
     Place {
         at: m + q.at,
-        to: writing::put_byte(41, out, q.to),
+        to: writing::put_byte(b')', out, q.to),
     }
 }
 
@@ -70,65 +69,53 @@ fn field(kind: Field, f: &[u8], out: &mut [u8], to: usize) -> Place
         Field::End => writing::formula(Sort::Intervals, f, out, to),
         Field::Face => writing::formula(Sort::Faces, f, out, to),
         Field::Interval => writing::formula(Sort::Intervals, f, out, to),
-        Field::Nothing => number(f, out, to),
     }
 }
 
-// Whether a predicate has no such field.
-fn is_none(kind: Field) -> bool
-    ensures { result ≡ no_field kind }
+// Writes the operands in front of f, one for each field, and the end of their list.
+fn operands(fields: &[Field], f: &[u8], out: &mut [u8], to: usize) -> usize
+    requires { ValuesFront (map field_of fields.now) f.now to }
+    ensures { ValuesPrint (map field_of fields.now) f.now out.old to result out.new }
 {
-    match kind {
-        Field::Number => false,
-        Field::Index => false,
-        Field::Context => false,
-        Field::End => false,
-        Field::Face => false,
-        Field::Interval => false,
-        Field::Nothing => true,
-    }
-}
-
-// Writes the operands in front of f from field j of a predicate on, and the end of their list.
-fn operands(predicate: usize, j: usize, f: &[u8], out: &mut [u8], to: usize) -> usize
-    requires { (predicate < 15) × (j ≤ 4) × ValuesFront (fields_from predicate j) f.now to }
-    ensures { ValuesPrint (fields_from predicate j) f.now out.old to result out.new }
-{
-    if j == 4 {
-        return writing::put_byte(41, out, to);
-    }
-    let kind = kinds::field_of(predicate, j);
-    if is_none(kind) {
-        return writing::put_byte(41, out, to);
-    }
-    let a = writing::put_byte(32, out, to);
-    let p = field(kind, f, out, a);
+    let Some((kind, rest)) = fields.split_first() else {
+        return writing::put_byte(b')', out, to);
+    };
+    let a = writing::put_byte(b' ', out, to);
+    let p = field(*kind, f, out, a);
     let m = p.at;
-    operands(predicate, j + 1, &f[m..], out, p.to)
+    operands(rest, &f[m..], out, p.to)
+}
+
+// The names of the predicates, in document 01's order.
+fn predicate_names() -> [&'static [u8]; 15]
+    ensures { map (λ x. x.now) result ≡ predicate_names }
+{
+    [
+        b"lt",
+        b"le",
+        b"interval",
+        b"face",
+        b"member",
+        b"take",
+        b"cover",
+        b"entails",
+        b"boundary",
+        b"local",
+        b"fforall",
+        b"ishift",
+        b"isubst",
+        b"fshift",
+        b"fsubst",
+    ]
 }
 
 // Writes the name of a predicate.
 fn put_predicate(predicate: usize, out: &mut [u8], to: usize) -> usize
-    requires { (predicate < 15) × Room to (predicate_name (predicate_of predicate)) }
-    ensures { Wrote (predicate_name (predicate_of predicate)) out.old to result out.new }
+    requires { (predicate < 15) × Room to (get_or predicate_names predicate []) }
+    ensures { Wrote (get_or predicate_names predicate []) out.old to result out.new }
 {
-    match predicate {
-        0 => writing::put(b"lt", out, to),
-        1 => writing::put(b"le", out, to),
-        2 => writing::put(b"interval", out, to),
-        3 => writing::put(b"face", out, to),
-        4 => writing::put(b"member", out, to),
-        5 => writing::put(b"take", out, to),
-        6 => writing::put(b"cover", out, to),
-        7 => writing::put(b"entails", out, to),
-        8 => writing::put(b"boundary", out, to),
-        9 => writing::put(b"local", out, to),
-        10 => writing::put(b"fforall", out, to),
-        11 => writing::put(b"ishift", out, to),
-        12 => writing::put(b"isubst", out, to),
-        13 => writing::put(b"fshift", out, to),
-        _ => writing::put(b"fsubst", out, to),
-    }
+    let names = predicate_names();
+    writing::put(names[predicate], out, to)
 }
 
 // Writes the judgement of a step.
@@ -137,7 +124,7 @@ pub(crate) fn judgement(l: &[u8], c: Cursor, out: &mut [u8], to: usize) -> usize
     ensures { Wrote (judgement_text (step_of l.now c.step).judgement) out.old to result out.new }
 {
     let predicate = c.predicate(l);
-    let a = writing::put_byte(40, out, to);
+    let a = writing::put_byte(b'(', out, to);
     let b = put_predicate(predicate, out, a);
-    operands(predicate, 0, c.operands(l), out, b)
+    operands(kinds::fields_of(predicate), c.operands(l), out, b)
 }

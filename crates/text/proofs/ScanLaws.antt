@@ -14,8 +14,8 @@ use borrow.Author.Tests.{eqb-true, eqb-false, eq-eqb, ne_eqb}
 use Rattle.formula.specs.Answers.{pick}
 use Rattle.text.specs.Tokens.{Token, word, class_of, is_spelling, begins_word, before, tokens}
 use Rattle.text.specs.Scanning.{class_number, span_of, between, Lexes}
-use Rattle.text.specs.declared.tokens.Class.{Class}
-use Rattle.text.specs.declared.tokens.Class.TheVariants.{Opening, Closing, Separator, Spelling}
+use Rattle.text.specs.declared.Class.{Class}
+use Rattle.text.specs.declared.Class.TheVariants.{Opening, Closing, Separator, Spelling}
 use Rattle.text.specs.declared.Token.TheVariants.{Open, Close, Word, End}
 
 -- Classes by their numbers.

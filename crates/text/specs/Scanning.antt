@@ -8,8 +8,8 @@ use Rattle.text.specs.Reading.{Item, number, number_list, close, Values, succeed
 use Rattle.text.specs.declared.Token.{Token}
 use Rattle.text.specs.declared.Token.TheVariants.{Open, Close, Word, End}
 use Rattle.text.specs.declared.Numeral.{Numeral}
-use Rattle.text.specs.declared.tokens.Class.{Class}
-use Rattle.text.specs.declared.tokens.Class.TheVariants.{Opening, Closing, Separator, Spelling}
+use Rattle.text.specs.declared.Class.{Class}
+use Rattle.text.specs.declared.Class.TheVariants.{Opening, Closing, Separator, Spelling}
 
 -- The classes of bytes as numbers.
 abbrev pub class_number : Class → ℕ

@@ -1,8 +1,8 @@
 -- The tokens of a text (document 01, "Text and listing"): parentheses and runs of other bytes; bytes 32 and 10 separate.
 use Rattle.std.specs.Prelude.{ℕ, Bool, true, false, List, [], ◌∷◌, eqb}
 use Rattle.formula.specs.Answers.{pick}
-use Rattle.text.specs.declared.tokens.Class.{Class}
-use Rattle.text.specs.declared.tokens.Class.TheVariants.{Opening, Closing, Separator, Spelling}
+use Rattle.text.specs.declared.Class.{Class}
+use Rattle.text.specs.declared.Class.TheVariants.{Opening, Closing, Separator, Spelling}
 
 -- A token: a parenthesis, or a word.
 pub data Token : Type 0 where

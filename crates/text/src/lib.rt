@@ -18,6 +18,15 @@ pub struct Claim {
     pub right: usize,
 }
 
+// What a byte can be: a parenthesis, a separator, or a part of a word.
+#[derive(Clone, Copy, PartialEq, Eq)]
+pub enum Class {
+    Opening,
+    Closing,
+    Separator,
+    Spelling,
+}
+
 // What stands at a place of a text: a parenthesis with the place behind it, a word with its two ends, or nothing more.
 #[derive(Clone, Copy)]
 pub enum Token {

@@ -3,17 +3,8 @@ ghost use Rattle.std.specs.Prelude.{◌≡◌, ◌+◌, ◌≤◌, length, drop}
 ghost use Rattle.text.specs.Tokens.{class_of};
 ghost use Rattle.text.specs.Scanning.{span_of, Lexes, Closes};
 
-use crate::Token;
+use crate::{Class, Token};
 use refusals::Refusal;
-
-// What a byte can be: a parenthesis, a separator, or a part of a word.
-#[derive(Clone, Copy, PartialEq, Eq)]
-enum Class {
-    Opening,
-    Closing,
-    Separator,
-    Spelling,
-}
 
 // What a byte is.
 fn class_of(b: u8) -> Class

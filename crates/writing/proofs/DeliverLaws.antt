@@ -23,8 +23,7 @@ use Rattle.text.specs.Answers.{delivered}
 use Rattle.text.specs.Wholes.{Delivers}
 use Rattle.writing.specs.Texts.{formula_text}
 use Rattle.writing.specs.Answers.{WritesInto}
-use Rattle.writing.specs.Writing.{Wrote, FormulaFronts, FormulaPrints, Delivered}
-use Rattle.writing.specs.declared.Place.{Place}
+use Rattle.writing.specs.Writing.{Place, Wrote, FormulaFronts, FormulaPrints, Delivered}
 use Rattle.writing.proofs.TextLaws.{text-long}
 
 -- A text that was measured and does not fit, or was written.
@@ -49,8 +48,8 @@ wrote-delivers {x} {out = out} {out'} {m = m} w h v =
 pub sized-short : {s : Sort} {l z z' out : List ℕ} {p : Place} → FormulaPrints s l z 0 p z' → length out < p.to → Delivered s l out (Err ShortOutput) out
 sized-short g h = record { it = λ t m r. short-delivers (g.it t m r).wrote h refl }
 
-pub sized-wrote : {s : Sort} {l z z' out out' : List ℕ} {p q : Place} → FormulaPrints s l z 0 p z' → p.to ≤ length out → FormulaPrints s l out 0 q out' → Delivered s l out (Ok q.to) out'
-sized-wrote g h k = record { it = λ t m r. wrote-delivers (g.it t m r).wrote h (k.it t m r).wrote }
+pub sized-wrote : {s : Sort} {l z z' out out' o : List ℕ} {p q : Place} → FormulaPrints s l z 0 p z' → p.to ≤ length out → FormulaPrints s l out 0 q out' → o ≡ out' → Delivered s l out (Ok q.to) o
+sized-wrote g h k e = record { it = λ t m r. let w = (k.it t m r).wrote in wrote-delivers (g.it t m r).wrote h (record { end = w.end; bytes = e ∙ w.bytes }) }
 
 -- Nothing but a formula within the limits is written.
 pub writes-refused : (s : Sort) (f out : List ℕ) {q : Refusal} → Err q ≡ map (size_of s) (operand s f) → WritesInto s f out (Err q) out

@@ -19,17 +19,11 @@ formula-p-requires t c = face-asks c.args.n c.args.f.now c.if-n-eq0.false c.requ
 pub put_byte-b-requires : goal.put_byte-b-requires
 put_byte-b-requires t c = (faces-space c.args.n c.args.f.now c.if-n-eq0.false c.put-a.ensures c.formula-p.ensures c.requires).1
 
-pub overflow_sub-n : goal.overflow_sub-n
-overflow_sub-n t c = omega (arith, c.if-n-eq0.false)
-
 pub slice_bounds-faces-count : goal.slice_bounds-faces-count
 slice_bounds-faces-count t c = omega (arith, (faces-space c.args.n c.args.f.now c.if-n-eq0.false c.put-a.ensures c.formula-p.ensures c.requires).0)
 
 pub slice_bounds-faces-start : goal.slice_bounds-faces-start
 slice_bounds-faces-start t c = omega (arith, (faces-space c.args.n c.args.f.now c.if-n-eq0.false c.put-a.ensures c.formula-p.ensures c.requires).0)
-
-pub slice_bounds-faces-end : goal.slice_bounds-faces-end
-slice_bounds-faces-end t c = omega (arith, (faces-space c.args.n c.args.f.now c.if-n-eq0.false c.put-a.ensures c.formula-p.ensures c.requires).0)
 
 pub faces-q-requires : goal.faces-q-requires
 faces-q-requires t c = (omega (arith, c.decreases, c.if-n-eq0.false), fronts-part _ c.args.f.now (faces-others c.args.n c.args.f.now c.if-n-eq0.false c.put-a.ensures c.formula-p.ensures c.put_byte-b.ensures c.requires))

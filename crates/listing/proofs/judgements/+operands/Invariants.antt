@@ -1,5 +1,5 @@
-use Prim.Native.Nat.{◌-◌}
+use Rattle.std.proofs.Common.{length}
 use Rattle.listing.proofs.judgements.+operands.Given as goal
 
 abbrev pub decreases-operands : goal.decreases-operands
-decreases-operands l = 4 - l.j
+decreases-operands l = length l.fields.now

@@ -12,9 +12,6 @@ slice_bounds-faces-count c = omega (arith, context-long c.args.f.now c.requires)
 pub slice_bounds-faces-start : goal.slice_bounds-faces-start
 slice_bounds-faces-start c = omega (arith, context-long c.args.f.now c.requires)
 
-pub slice_bounds-faces-end : goal.slice_bounds-faces-end
-slice_bounds-faces-end c = omega (arith, context-long c.args.f.now c.requires)
-
 pub faces-q-requires : goal.faces-q-requires
 faces-q-requires c = fronts-part 2 c.args.f.now (context-asks c.args.f.now c.get2-n.ensures.0 c.requires)
 

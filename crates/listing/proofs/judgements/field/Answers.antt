@@ -19,9 +19,6 @@ formula-requires-in-Face c = field-fronts c.in-Face.is c.requires
 pub formula-requires-in-Interval : goal.formula-requires-in-Interval
 formula-requires-in-Interval c = field-fronts c.in-Interval.is c.requires
 
-pub number-requires-in-Nothing : goal.number-requires-in-Nothing
-number-requires-in-Nothing c = field-fronts c.in-Nothing.is c.requires
-
 pub returns-in-Number : goal.returns-in-Number
 returns-in-Number c = field-prints c.in-Number.is c.number.ensures
 
@@ -39,6 +36,3 @@ returns-in-Face c = field-prints c.in-Face.is c.formula-in-Face.ensures
 
 pub returns-in-Interval : goal.returns-in-Interval
 returns-in-Interval c = field-prints c.in-Interval.is c.formula-in-Interval.ensures
-
-pub returns-in-Nothing : goal.returns-in-Nothing
-returns-in-Nothing c = field-prints c.in-Nothing.is c.number-in-Nothing.ensures

@@ -15,7 +15,7 @@ pub put_predicate-b-requires : goal.put_predicate-b-requires
 put_predicate-b-requires c = (omega (arith, c.predicate-predicate.ensures, (numbered (predicate (step_of c.args.l.now c.args.c.step).judgement)).1), room-first _ _ (room_next _ (room_as (sym (judgement-is (step_of c.args.l.now c.args.c.step).judgement c.predicate-predicate.ensures)) c.requires.room) c.put_byte-a.ensures))
 
 pub operands-requires-2 : goal.operands-requires-2
-operands-requires-2 c = (omega (arith, c.predicate-predicate.ensures, (numbered (predicate (step_of c.args.l.now c.args.c.step).judgement)).1), omega arith, operands-front (step_of c.args.l.now c.args.c.step).judgement c.predicate-predicate.ensures c.operands.ensures (formed c.requires.points).limits (room_next _ (room_next _ (room_as (sym (judgement-is (step_of c.args.l.now c.args.c.step).judgement c.predicate-predicate.ensures)) c.requires.room) c.put_byte-a.ensures) c.put_predicate-b.ensures))
+operands-requires-2 c = operands-front (step_of c.args.l.now c.args.c.step).judgement c.predicate-predicate.ensures c.fields_of.ensures c.operands.ensures (formed c.requires.points).limits (room_next _ (room_next _ (room_as (sym (judgement-is (step_of c.args.l.now c.args.c.step).judgement c.predicate-predicate.ensures)) c.requires.room) c.put_byte-a.ensures) c.put_predicate-b.ensures)
 
 pub returns : goal.returns
-returns c = wrote_as (judgement-is (step_of c.args.l.now c.args.c.step).judgement c.predicate-predicate.ensures) (wrote-next c.put_byte-a.ensures (wrote-next c.put_predicate-b.ensures (operands-wrote (step_of c.args.l.now c.args.c.step).judgement c.predicate-predicate.ensures c.operands.ensures (formed c.requires.points).limits c.operands-2.ensures)))
+returns c = wrote_as (judgement-is (step_of c.args.l.now c.args.c.step).judgement c.predicate-predicate.ensures) (wrote-next c.put_byte-a.ensures (wrote-next c.put_predicate-b.ensures (operands-wrote (step_of c.args.l.now c.args.c.step).judgement c.predicate-predicate.ensures c.fields_of.ensures c.operands.ensures (formed c.requires.points).limits c.operands-2.ensures)))

@@ -1,0 +1,20 @@
+use Rattle.std.proofs.Common.{ap, sym, arith}
+use Rattle.writing.specs.Texts.{decimal_text}
+use Rattle.writing.proofs.WriteLaws.{room_as, wrote_as, wrote_none}
+use Rattle.listing.specs.Lines.{references_text}
+use Rattle.listing.specs.Writing.{step_of}
+use Rattle.listing.proofs.LineLaws.{comma-room, decimal-room, reference-wrote}
+use Rattle.listing.proofs.lines.references.Goals as goal
+
+pub loop-j-init : goal.loop-j-init
+unfolding references_text
+loop-j-init c = wrote_none
+
+pub comma-a-requires : goal.comma-a-requires
+comma-a-requires c = comma-room (step_of c.args.l.now c.args.c.step).references c.loop-j.j (omega (arith, c.loop-j-test.true, c.entry-entry.ensures.0)) c.requires.room c.loop-j.invariant
+
+pub decimal-at-requires : goal.decimal-at-requires
+decimal-at-requires c = room_as (ap decimal_text (sym c.reference.ensures)) (decimal-room (step_of c.args.l.now c.args.c.step).references c.loop-j.j (omega (arith, c.loop-j-test.true, c.entry-entry.ensures.0)) c.requires.room c.loop-j.invariant c.comma-a.ensures)
+
+pub loop-j-preserved : goal.loop-j-preserved
+loop-j-preserved c = reference-wrote (step_of c.args.l.now c.args.c.step).references c.loop-j.j (omega (arith, c.loop-j-test.true, c.entry-entry.ensures.0)) c.requires.room c.loop-j.invariant c.comma-a.ensures (wrote_as (ap decimal_text c.reference.ensures) c.decimal-at.ensures)
