@@ -7,6 +7,14 @@ ghost use Rattle.dnf.specs.Forming.{Printable, form_bytes, Shapes, Forms, Whole,
 use crate::{finding, limits};
 use clauses::Clause;
 
+// What lists are filled with. As a constant, a list of it is cleared at once.
+const BLANK: Clause = Clause {
+    w0: 0,
+    w1: 0,
+    w2: 0,
+    w3: 0,
+};
+
 // The nodes of the disjunction of clauses.
 fn nodes(form: &[Clause]) -> usize
     requires { length form.now ≤ 256 }
@@ -48,7 +56,7 @@ fn formed(
     requires { Shapes (words mask) numbers.now f.now (length list.old) (length out.old) }
     ensures { Forms (words mask) numbers.now f.now out.old result out.new }
 {
-    let mut sorted = [clauses::none(); 256];
+    let mut sorted = [BLANK; 256];
     let found = finding::find(f, 0, numbers, mask, list, &mut sorted)?;
     let form = &list[..found.count];
     if limits::large(nodes(form)) {
@@ -64,7 +72,7 @@ fn sized<const N: usize>(f: &[u8], numbers: &[usize], mask: Clause, out: &mut [u
     requires shapes { Shapes (words mask) numbers.now f.now N (length out.old) }
     ensures { Forms (words mask) numbers.now f.now out.old result out.new }
 {
-    let mut list = [clauses::none(); N];
+    let mut list = [BLANK; N];
     formed(f, numbers, mask, &mut list, out)
 }
 

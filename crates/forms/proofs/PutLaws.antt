@@ -1,6 +1,8 @@
 -- What the functions write: bytes of one kind, a literal, the literals of a clause by their ranks.
 use Prim.Native.Nat.{ℕ, zero, suc, ◌+◌, ◌-◌, ◌*◌, ◌/◌, ◌%◌, ◌≤◌, ◌<◌}
+use native.Mathlib.Decide.{dec_le}
 use native.Mathlib.Numerals.{add-one}
+use Rattle.clauses.proofs.Selecting.{bits-length}
 use native.Mathlib.Omega.{arith}
 use mathlib.Core.Path.{◌≡◌, refl, sym, ap, ap₂, ◌∙◌, subst}
 use mathlib.Core.Bool.{Bool, true, false}
@@ -86,25 +88,35 @@ all_head (each p a) = p
 all_tail : {P : ℕ → Type 0} {k : ℕ} {l : List ℕ} → All P (k ∷ l) → All P l
 all_tail (each p a) = a
 
--- The literals before a rank are written, and those from it on are to come.
-pub record Spelling (ks : List ℕ) (b : List Bool) (out₀ : List ℕ) (to : ℕ) (out : List ℕ) (at k : ℕ) : Type 0 where
+-- Some literals are written, and as many are left as are to come from a rank on.
+pub record Spelling (ks : List ℕ) (b : List Bool) (out₀ : List ℕ) (to : ℕ) (out : List ℕ) (at left k : ℕ) : Type 0 where
+  pub same : length ks ≡ length b
   pub printing : Printing (λ j. encode_face (literal j)) (literals_bytes (select ks b)) out₀ to (chosen_from ks b k) at out
+  pub many : left ≡ length (chosen_from ks b k)
   pub narrow : Narrow (chosen_from ks b k)
 
-pub spelling-start : (ks : List ℕ) (b : List Bool) {out : List ℕ} {to : ℕ} → Narrow (select ks b) → Spelling ks b out to out to 0
+pub spelling-start : (ks : List ℕ) (c : Bits) {out : List ℕ} {to many : ℕ} → length ks ≡ 256 → many ≡ count (bits c) → Narrow (select ks (bits c)) → Spelling ks (bits c) out to out to many 0
 unfolding literals_bytes
-spelling-start ks b a = record { printing = printing-start wrote_none refl; narrow = a }
+spelling-start ks c e m a = record { same = e ∙ sym (bits-length c); printing = printing-start wrote_none refl; many = m ∙ sym (clause-count ks c e); narrow = a }
 
-pub spelling-length : {ks : List ℕ} {b : List Bool} {out₀ : List ℕ} {to : ℕ} {out : List ℕ} {at k : ℕ} → Spelling ks b out₀ to out at k → length out ≡ length out₀
+pub spelling-length : {ks : List ℕ} {b : List Bool} {out₀ : List ℕ} {to : ℕ} {out : List ℕ} {at left k : ℕ} → Spelling ks b out₀ to out at left k → length out ≡ length out₀
 spelling-length s = printing-length s.printing
 
 -- The same, told in other numbers.
-pub spelling-as : {ks : List ℕ} {b : List Bool} {out₀ : List ℕ} {to : ℕ} {out out' : List ℕ} {at at' k : ℕ} → out' ≡ out → at' ≡ at → Spelling ks b out₀ to out at k → Spelling ks b out₀ to out' at' k
-spelling-as e f s = rw (e, f) s
+pub spelling-as : {ks : List ℕ} {b : List Bool} {out₀ : List ℕ} {to : ℕ} {out out' : List ℕ} {at at' left left' k : ℕ} → out' ≡ out → at' ≡ at → left' ≡ left → Spelling ks b out₀ to out at left k → Spelling ks b out₀ to out' at' left' k
+spelling-as e f g s = rw (e, f, g) s
 
-module _ {ks : List ℕ} {b : List Bool} {out₀ : List ℕ} {to : ℕ} {out : List ℕ} {at k : ℕ} (s : Spelling ks b out₀ to out at k) (h : k < length ks) (g : k < length b) where
+module _ {ks : List ℕ} {b : List Bool} {out₀ : List ℕ} {to : ℕ} {out : List ℕ} {at left k : ℕ} (s : Spelling ks b out₀ to out at left k) (h : 0 < left) where
+  -- The rank is one of a literal.
+  pub spelling-rank : k < length ks
+  spelling-rank = go (dec_le (length ks) k)
+    where
+      go : Dec (length ks ≤ k) → k < length ks
+      go (yes g) = absurd (omega (arith, s.many, ap length (chosen_none ks b k g)))
+      go (no g) = omega arith
+
   here : (x : Bool) → get_or b k false ≡ x → chosen_from ks b k ≡ pick x (get_or ks k 0 ∷ chosen_from ks b (k + 1)) (chosen_from ks b (k + 1))
-  here x p = chosen_at ks b k h g ∙ ap (λ (x : Bool). pick x (get_or ks k 0 ∷ chosen_from ks b (k + 1)) (chosen_from ks b (k + 1))) p
+  here x p = chosen_at ks b k spelling-rank (omega (arith, s.same, spelling-rank)) ∙ ap (λ (x : Bool). pick x (get_or ks k 0 ∷ chosen_from ks b (k + 1)) (chosen_from ks b (k + 1))) p
 
   narrow-here : (x : Bool) → get_or b k false ≡ x → Narrow (pick x (get_or ks k 0 ∷ chosen_from ks b (k + 1)) (chosen_from ks b (k + 1)))
   narrow-here x p = subst Narrow (here x p) s.narrow
@@ -115,18 +127,30 @@ module _ {ks : List ℕ} {b : List Bool} {out₀ : List ℕ} {to : ℕ} {out : L
   pub spelling-room : get_or b k false ≡ true → to + length (literals_bytes (select ks b)) ≤ length out₀ → at + length (encode_face (literal (get_or ks k 0))) ≤ length out
   spelling-room p r = printing-room s.printing (here true p) r
 
-  pub spelling-next : {at' : ℕ} {out' : List ℕ} → get_or b k false ≡ true → Wrote out at (encode_face (literal (get_or ks k 0))) at' out' → Spelling ks b out₀ to out' at' (k + 1)
-  spelling-next p w = record { printing = printing-next s.printing (here true p) w; narrow = all_tail (narrow-here true p) }
+  pub spelling-next : {at' : ℕ} {out' : List ℕ} → get_or b k false ≡ true → Wrote out at (encode_face (literal (get_or ks k 0))) at' out' → Spelling ks b out₀ to out' at' (left - 1) (k + 1)
+  spelling-next p w =
+      record {
+        same = s.same;
+        printing = printing-next s.printing (here true p) w;
+        many = omega (arith, s.many, ap length (here true p));
+        narrow = all_tail (narrow-here true p);
+      }
 
-  pub spelling-skip : get_or b k false ≡ false → Spelling ks b out₀ to out at (k + 1)
+  pub spelling-skip : get_or b k false ≡ false → Spelling ks b out₀ to out at left (k + 1)
   spelling-skip p =
       record {
+        same = s.same;
         printing = subst (λ (l : List ℕ). Printing (λ j. encode_face (literal j)) (literals_bytes (select ks b)) out₀ to l at out) (here false p) s.printing;
+        many = s.many ∙ ap length (here false p);
         narrow = narrow-here false p;
       }
 
-pub spelling-end : {ks : List ℕ} {b : List Bool} {out₀ : List ℕ} {to : ℕ} {out : List ℕ} {at k : ℕ} → Spelling ks b out₀ to out at k → length ks ≤ k → Wrote out₀ to (literals_bytes (select ks b)) at out
-spelling-end {ks} {b} {k = k} s h = printing-end s.printing (chosen_none ks b k h)
+empty : (l : List ℕ) → length l ≡ 0 → l ≡ []
+empty [] e = refl
+empty (k ∷ l) e = absurd (omega (arith, e))
+
+pub spelling-end : {ks : List ℕ} {b : List Bool} {out₀ : List ℕ} {to : ℕ} {out : List ℕ} {at left k : ℕ} → Spelling ks b out₀ to out at left k → left ≤ 0 → Wrote out₀ to (literals_bytes (select ks b)) at out
+spelling-end {ks} {b} {k = k} s h = printing-end s.printing (empty (chosen_from ks b k) (omega (arith, s.many, h)))
 
 -- ---- a clause
 

@@ -43,18 +43,24 @@ fn put_literal(k: usize, out: &mut [u8], to: usize) -> usize
     to + 1 + formula::DIM
 }
 
-// Writes the literals of a clause in order; the place behind.
-fn put_literals(c: Clause, numbers: &[usize], out: &mut [u8], to: usize) -> usize
+// Writes the literals of a clause in order; the place behind. Counting what is left ends the loop at the last literal, which
+// is mostly one of the first ranks.
+fn put_literals(c: Clause, many: usize, numbers: &[usize], out: &mut [u8], to: usize) -> usize
+    requires many_value { many ≡ count (bits c) }
     requires numbers_len { length numbers.now ≡ 256 }
     requires all { All (λ k. k / 2 < dim_space) (select numbers.now (bits c)) }
     requires c_in_bounds { to + length (literals_bytes (select numbers.now (bits c))) ≤ length out.old }
     ensures { Wrote out.old to (literals_bytes (select numbers.now (bits c))) result out.new }
 {
     let mut at = to;
-    for rank in 0..256 {
+    let mut left = many;
+    let mut rank = 0;
+    while left > 0 {
         if clauses::has(c, rank) {
             at = put_literal(numbers[rank], out, at);
+            left -= 1;
         }
+        rank += 1;
     }
     at
 }
@@ -71,5 +77,5 @@ pub fn put_clause(c: Clause, numbers: &[usize], out: &mut [u8], to: usize) -> us
         return put_times(1, 1, out, to);
     }
     let at = put_times(4, many - 1, out, to);
-    put_literals(c, numbers, out, at)
+    put_literals(c, many, numbers, out, at)
 }

@@ -10,11 +10,11 @@ use lib.ListN.{get_or}
 use borrow.Author.Tests.{eq-eqb, eqb-true}
 use Rattle.formula.specs.Formula.{Face}
 use Rattle.calculus.specs.Judgement.{Judgement, entails, Step}
-use Rattle.calculus.specs.Table.{Pred, p_entails, predicate, Entry, unlisted, table, Listed}
+use Rattle.calculus.specs.Table.{Pred, p_entails, predicate, Entry, entry, unlisted, table, Listed}
 use Rattle.calculus.specs.Record.{fields, Values, operands, operand_bytes, FormedStep, FormedFrom}
 use Rattle.calculus.specs.Parse.{judgement_of}
 use Rattle.calculus.proofs.Fields.{Allowed, rebuilt, operands-injective}
-use Rattle.kinds.specs.Kinds.{number_in}
+use Rattle.kinds.specs.Kinds.{number_of}
 use Rattle.repeat_test.specs.Repeats.{SameClaim, last_step}
 use Rattle.repeat_test.proofs.TestLaws.{decide-same}
 
@@ -60,6 +60,11 @@ last-formed i (r ∷ []) {s} f e = let z : r ≡ s = cc in (i, subst (FormedStep
 last-formed i (r ∷ (t ∷ L)) f e = last-formed (suc i) (t ∷ L) f.1 e
 
 -- Kinds -----------------------------------------------------------------------------------------
+
+-- The number of the predicate in an entry.
+abbrev number_in : Entry → ℕ
+number_in (entry name n p) = number_of p
+number_in unlisted = 0
 
 -- Where the first is so, so is the second.
 abbrev implied : Bool → Bool → Bool

@@ -15,32 +15,12 @@ use Rattle.calculus.specs.Rules.{AllBelow}
 use Rattle.calculus.specs.Parse.{read_ledger}
 use Rattle.refusals.specs.declared.Refusal.{Refusal}
 use Rattle.refusals.specs.declared.Refusal.TheVariants.{IllFormedLedger}
-use Rattle.refusals.specs.Refusals.{Result, refused, done}
+use Rattle.std.specs.Prelude.{Result, Ok, Err}
 use Rattle.calculus.proofs.Fields.{Allowed}
 use Rattle.calculus.proofs.Records.{ledger-read}
-use Rattle.repeat_test.specs.declared.Compared.{Compared}
-use Rattle.repeat_test.specs.declared.Compared.TheVariants.{Repeats, Fresh, Refused}
-use Rattle.repeat_test.specs.Repeats.{SameClaim, same_claim?, last_step, end_alike, said, repeat_test}
+use Rattle.repeat_test.specs.Repeats.{SameClaim, same_claim?, last_step, end_alike, repeat_test}
 use Rattle.repeat_test.proofs.TestLaws.{decide-same}
 use Rattle.repeat_test.proofs.ClaimLaws.{claims, same-judgements, same_back, same-on, same_self, last-formed, entails-kind}
-
--- Answers -----------------------------------------------------------------------------------------
-
--- Back from what is said.
-back : Result Bool → Compared
-back (done true) = Repeats
-back (done false) = Fresh
-back (refused e) = Refused e
-
-said-back : (r : Compared) → back (said r) ≡ r
-unfolding back
-said-back Repeats = refl
-said-back Fresh = refl
-said-back (Refused e) = refl
-
--- What is said tells the answers apart, so the contract allows one answer only.
-pub said-one : (r q : Compared) → said r ≡ said q → r ≡ q
-said-one r q e = sym (said-back r) ∙ ap back e ∙ said-back q
 
 -- Ledgers -----------------------------------------------------------------------------------------
 
@@ -80,7 +60,7 @@ claims-kind b e p =
     let f = (ends-formed b e).1.listed in
     entails-kind (subst (Listed e.last.kind (length e.last.references)) (ap predicate e.claims ∙ p) f)
 
-test-alike : (l m : List ℕ) → repeat_test (read_ledger l) (read_ledger m) ≡ done true → EndAlike l m
+test-alike : (l m : List ℕ) → repeat_test (read_ledger l) (read_ledger m) ≡ Ok true → EndAlike l m
 test-alike l m e = go (read_ledger l) (read_ledger m) refl refl e
   where
     on : (L M : List Step) → read_ledger l ≡ some L → read_ledger m ≡ some M → (o p : Option Step) → last_step L ≡ o → last_step M ≡ p → end_alike o p ≡ true → EndAlike l m
@@ -95,18 +75,18 @@ test-alike l m e = go (read_ledger l) (read_ledger m) refl refl e
           same = (decide_iff (same_claim? s.judgement t.judgement)).0 h;
         }
 
-    go : (o p : Option (List Step)) → read_ledger l ≡ o → read_ledger m ≡ p → repeat_test o p ≡ done true → EndAlike l m
+    go : (o p : Option (List Step)) → read_ledger l ≡ o → read_ledger m ≡ p → repeat_test o p ≡ Ok true → EndAlike l m
     go none p x y h = absurd (let z : ◌≡◌ {A = ℕ} 0 1 = cc in omega arith)
     go (some L) none x y h = absurd (let z : ◌≡◌ {A = ℕ} 0 1 = cc in omega arith)
     go (some L) (some M) x y h = on L M x y (last_step L) (last_step M) refl refl (cc)
 
-alike-test : (l m : List ℕ) → EndAlike l m → repeat_test (read_ledger l) (read_ledger m) ≡ done true
+alike-test : (l m : List ℕ) → EndAlike l m → repeat_test (read_ledger l) (read_ledger m) ≡ Ok true
 alike-test l m e =
     let x = e.left in
     let y = e.right in
     let s : SameClaim x.last.judgement y.last.judgement = subst (λ (i : Judgement). SameClaim i y.last.judgement) (sym x.claims) (subst (SameClaim e.j) (sym y.claims) e.same) in
     ap₂ repeat_test x.reads y.reads
-    ∙ ap done (ap₂ end_alike x.ends y.ends ∙ (decide_iff (same_claim? x.last.judgement y.last.judgement)).1 s)
+    ∙ ap Ok (ap₂ end_alike x.ends y.ends ∙ (decide_iff (same_claim? x.last.judgement y.last.judgement)).1 s)
 
 -- A ledger ends in one judgement.
 ends-one : {l : List ℕ} {j k : Judgement} → EndsIn l j → EndsIn l k → j ≡ k
@@ -117,43 +97,43 @@ ends-one {l} x y = go l x.steps y.steps x.last y.last x.reads y.reads x.ends y.e
 
 -- An answer ------------------------------------------------------------------------------------------
 
-module _ (l m : List ℕ) {r : Compared} (e : said r ≡ repeat_test (read_ledger l) (read_ledger m)) where
+module _ (l m : List ℕ) {r : Result Bool Refusal} (e : r ≡ repeat_test (read_ledger l) (read_ledger m)) where
   -- Yes exactly where both end in the claim that a implies b over d, the same d, a and b.
-  pub repeats-claims : AllBelow 256 l → AllBelow 256 m → r ≡ Repeats → BothClaim l m
+  pub repeats-claims : AllBelow 256 l → AllBelow 256 m → r ≡ Ok true → BothClaim l m
   repeats-claims x y h =
-      let q = test-alike l m (sym e ∙ ap said h) in
+      let q = test-alike l m (sym e ∙ h) in
       let c = claims q.j q.same.left in
       let s = same-judgements (ends-allowed x q.left) (ends-allowed y q.right) q.same in
       record { d = c.d; a = c.a; b = c.b; left = subst (EndsIn l) c.is q.left; right = subst (EndsIn m) (sym s ∙ c.is) q.right }
 
-  pub claims-repeats : BothClaim l m → r ≡ Repeats
-  claims-repeats c = said-one r Repeats (e ∙ alike-test l m (record { j = entails c.d c.a c.b; k = entails c.d c.a c.b; left = c.left; right = c.right; same = same_self refl }))
+  pub claims-repeats : BothClaim l m → r ≡ Ok true
+  claims-repeats c = e ∙ alike-test l m (record { j = entails c.d c.a c.b; k = entails c.d c.a c.b; left = c.left; right = c.right; same = same_self refl })
 
   -- Refused exactly where either is no ledger, and by 1.
-  pub refused-ill : {f : Refusal} → r ≡ Refused f → (read_ledger l ≡ none) ⊎ (read_ledger m ≡ none)
-  refused-ill {f} h = go (read_ledger l) (read_ledger m) refl refl (sym e ∙ ap said h)
+  pub refused-ill : {f : Refusal} → r ≡ Err f → (read_ledger l ≡ none) ⊎ (read_ledger m ≡ none)
+  refused-ill {f} h = go (read_ledger l) (read_ledger m) refl refl (sym e ∙ h)
     where
-      go : (o p : Option (List Step)) → read_ledger l ≡ o → read_ledger m ≡ p → repeat_test o p ≡ refused f → (read_ledger l ≡ none) ⊎ (read_ledger m ≡ none)
+      go : (o p : Option (List Step)) → read_ledger l ≡ o → read_ledger m ≡ p → repeat_test o p ≡ Err f → (read_ledger l ≡ none) ⊎ (read_ledger m ≡ none)
       go none p x y h = inl x
       go (some L) none x y h = inr y
       go (some L) (some M) x y h = absurd (let z : ◌≡◌ {A = ℕ} 0 1 = cc in omega arith)
 
-  pub ill-refused : (read_ledger l ≡ none) ⊎ (read_ledger m ≡ none) → r ≡ Refused IllFormedLedger
-  ill-refused (inl x) = said-one r (Refused IllFormedLedger) (e ∙ ap (λ (o : Option (List Step)). repeat_test o (read_ledger m)) x)
-  ill-refused (inr y) = said-one r (Refused IllFormedLedger) (e ∙ ap (repeat_test (read_ledger l)) y ∙ go (read_ledger l))
+  pub ill-refused : (read_ledger l ≡ none) ⊎ (read_ledger m ≡ none) → r ≡ Err IllFormedLedger
+  ill-refused (inl x) = e ∙ ap (λ (o : Option (List Step)). repeat_test o (read_ledger m)) x
+  ill-refused (inr y) = e ∙ ap (repeat_test (read_ledger l)) y ∙ go (read_ledger l)
     where
-      go : (o : Option (List Step)) → repeat_test o none ≡ refused IllFormedLedger
+      go : (o : Option (List Step)) → repeat_test o none ≡ Err IllFormedLedger
       go none = refl
       go (some L) = refl
 
   -- An empty ledger repeats nothing.
-  pub empty-fresh : (M : List Step) → read_ledger l ≡ some [] → read_ledger m ≡ some M → r ≡ Fresh
+  pub empty-fresh : (M : List Step) → read_ledger l ≡ some [] → read_ledger m ≡ some M → r ≡ Ok false
   unfolding last_step
-  empty-fresh M x y = said-one r Fresh (e ∙ ap₂ repeat_test x y)
+  empty-fresh M x y = e ∙ ap₂ repeat_test x y
 
   -- The answer does not depend on which ledger is named first.
-  pub symmetric : {q : Compared} → said q ≡ repeat_test (read_ledger m) (read_ledger l) → r ≡ q
-  symmetric {q} f = said-one r q (e ∙ tests (read_ledger l) (read_ledger m) ∙ sym f)
+  pub symmetric : {q : Result Bool Refusal} → q ≡ repeat_test (read_ledger m) (read_ledger l) → r ≡ q
+  symmetric {q} f = e ∙ tests (read_ledger l) (read_ledger m) ∙ sym f
     where
       ends : (o p : Option Step) → end_alike o p ≡ end_alike p o
       ends none none = refl
@@ -165,20 +145,20 @@ module _ (l m : List ℕ) {r : Compared} (e : said r ≡ repeat_test (read_ledge
       tests none none = refl
       tests none (some M) = refl
       tests (some L) none = refl
-      tests (some L) (some M) = ap done (ends (last_step L) (last_step M))
+      tests (some L) (some M) = ap Ok (ends (last_step L) (last_step M))
 
   -- What repeats a repeat repeats the first.
-  pub transitive : (n : List ℕ) {q p : Compared} → said q ≡ repeat_test (read_ledger m) (read_ledger n) → said p ≡ repeat_test (read_ledger l) (read_ledger n) → r ≡ Repeats → q ≡ Repeats → p ≡ Repeats
+  pub transitive : (n : List ℕ) {q p : Result Bool Refusal} → q ≡ repeat_test (read_ledger m) (read_ledger n) → p ≡ repeat_test (read_ledger l) (read_ledger n) → r ≡ Ok true → q ≡ Ok true → p ≡ Ok true
   transitive n {q} {p} f g x y =
-      let a = test-alike l m (sym e ∙ ap said x) in
-      let b = test-alike m n (sym f ∙ ap said y) in
+      let a = test-alike l m (sym e ∙ x) in
+      let b = test-alike m n (sym f ∙ y) in
       let s = subst (SameClaim a.j) (ends-one a.right b.left) a.same in
-      said-one p Repeats (g ∙ alike-test l n (record { j = a.j; k = b.k; left = a.left; right = b.right; same = same-on s b.same }))
+      g ∙ alike-test l n (record { j = a.j; k = b.k; left = a.left; right = b.right; same = same-on s b.same })
 
 -- A ledger repeats itself exactly where it ends in an entails step.
-module _ (l : List ℕ) {r : Compared} (e : said r ≡ repeat_test (read_ledger l) (read_ledger l)) where
-  pub self-claims : r ≡ Repeats → (j : Judgement) × EndsIn l j × (predicate j ≡ p_entails)
-  self-claims h = let q = test-alike l l (sym e ∙ ap said h) in (q.j, q.left, q.same.left)
+module _ (l : List ℕ) {r : Result Bool Refusal} (e : r ≡ repeat_test (read_ledger l) (read_ledger l)) where
+  pub self-claims : r ≡ Ok true → (j : Judgement) × EndsIn l j × (predicate j ≡ p_entails)
+  self-claims h = let q = test-alike l l (sym e ∙ h) in (q.j, q.left, q.same.left)
 
-  pub claims-self : {j : Judgement} → EndsIn l j → predicate j ≡ p_entails → r ≡ Repeats
-  claims-self {j} x p = said-one r Repeats (e ∙ alike-test l l (record { j = j; k = j; left = x; right = x; same = same_self p }))
+  pub claims-self : {j : Judgement} → EndsIn l j → predicate j ≡ p_entails → r ≡ Ok true
+  claims-self {j} x p = e ∙ alike-test l l (record { j = j; k = j; left = x; right = x; same = same_self p })

@@ -13,14 +13,17 @@ use Rattle.calculus.specs.Table.{Pred, p_entails, predicate}
 use Rattle.calculus.specs.Rules.{step_at, judgement_at}
 use Rattle.calculus.specs.Record.{operand_bytes}
 use Rattle.calculus.specs.Parse.{read_ledger}
-use Rattle.refusals.specs.declared.Refusal.TheVariants.{IllFormedLedger}
-use Rattle.refusals.specs.Refusals.{refused, done}
+use Rattle.std.specs.Prelude.{Result, Ok, Err}
+use Rattle.refusals.specs.declared.Refusal.{Refusal}
 use Rattle.kinds.specs.Kinds.{number_of, predicate_of}
 use Rattle.kinds.proofs.KindLaws.{numbered}
 use Rattle.ledger.specs.Checks.{step_count}
 use Rattle.ledger.specs.Ledger.{steps_in, steps_of}
 use Rattle.ledger.proofs.CheckLaws.{counted-steps}
 use Rattle.repeat_test.specs.Repeats.{SameClaim, same_claim?, last_step, end_alike, repeat_test}
+
+pub unlike : true ≡ false → ⊥
+unlike x = let z : ◌≡◌ {A = ℕ} 0 1 = cc in omega arith
 
 pub decide-no : {A : Type 0} (d : Dec A) → (A → ⊥) → decide d ≡ false
 unfolding decide
@@ -54,9 +57,6 @@ module _ (j k : Judgement) where
           let s : SameClaim j k = record { left = entails-number (predicate j) p; right = entails-number (predicate k) q; operands = same_true (operand_bytes j) (operand_bytes k) e } in
           sym ((decide_iff (same_claim? j k)).1 s)
       go false e = sym (decide-no (same_claim? j k) (λ s. unlike (sym (ap (λ (x : List ℕ). same_bytes x (operand_bytes k)) s.operands ∙ same_refl (operand_bytes k)) ∙ e)))
-        where
-          unlike : true ≡ false → ⊥
-          unlike x = let z : ◌≡◌ {A = ℕ} 0 1 = cc in omega arith
 
 -- The last step -------------------------------------------------------------------------------
 
@@ -77,7 +77,7 @@ fresh-right : (o : Option Step) → false ≡ end_alike o none
 fresh-right none = refl
 fresh-right (some s) = refl
 
-module _ (l m : List ℕ) {n k : ℕ} (a : step_count (read_ledger l) ≡ done n) (b : step_count (read_ledger m) ≡ done k) where
+module _ (l m : List ℕ) {n k : ℕ} (a : step_count (read_ledger l) ≡ Ok n) (b : step_count (read_ledger m) ≡ Ok k) where
   pub empty_left : n ≡ 0 → false ≡ end_alike (last_step (steps_of l)) (last_step (steps_of m))
   empty_left h = sym (ap (λ (o : Option Step). end_alike o (last_step (steps_of m))) (last_none (steps_of l) (counted-steps l a ∙ h)))
 
@@ -88,28 +88,33 @@ module _ (l m : List ℕ) {n k : ℕ} (a : step_count (read_ledger l) ≡ done n
   by_last {i} {j} p q e = e ∙ sym (ap₂ end_alike (last-at (steps_of l) i (p ∙ sym (counted-steps l a))) (last-at (steps_of m) j (q ∙ sym (counted-steps m b))))
 
   -- Two ledgers that were read are answered by how they end.
-  pub both_read : repeat_test (read_ledger l) (read_ledger m) ≡ done (end_alike (last_step (steps_of l)) (last_step (steps_of m)))
+  pub both_read : repeat_test (read_ledger l) (read_ledger m) ≡ Ok (end_alike (last_step (steps_of l)) (last_step (steps_of m)))
   unfolding steps_of
   both_read = go (read_ledger l) (read_ledger m) a b
     where
-      go : (o p : Option (List Step)) → step_count o ≡ done n → step_count p ≡ done k → repeat_test o p ≡ done (end_alike (last_step (steps_in o)) (last_step (steps_in p)))
+      go : (o p : Option (List Step)) → step_count o ≡ Ok n → step_count p ≡ Ok k → repeat_test o p ≡ Ok (end_alike (last_step (steps_in o)) (last_step (steps_in p)))
       go none p x y = absurd (let z : ◌≡◌ {A = ℕ} 0 1 = cc in omega arith)
       go (some L) none x y = absurd (let z : ◌≡◌ {A = ℕ} 0 1 = cc in omega arith)
       go (some L) (some M) x y = refl
 
+-- A refusal of a count, as one of an answer.
+abbrev again : Result ℕ Refusal → Result Bool Refusal
+again (Err e) = Err e
+again (Ok n) = Ok true
+
 -- Bytes that are no ledger are refused, whatever the others are.
-module _ (l m : List ℕ) where
-  pub ill-left : step_count (read_ledger l) ≡ refused IllFormedLedger → refused IllFormedLedger ≡ repeat_test (read_ledger l) (read_ledger m)
+module _ (l m : List ℕ) {e : Refusal} where
+  pub ill-left : step_count (read_ledger l) ≡ Err e → Err e ≡ repeat_test (read_ledger l) (read_ledger m)
   ill-left h = go (read_ledger l) h
     where
-      go : (o : Option (List Step)) → step_count o ≡ refused IllFormedLedger → refused IllFormedLedger ≡ repeat_test o (read_ledger m)
-      go none h = refl
+      go : (o : Option (List Step)) → step_count o ≡ Err e → Err e ≡ repeat_test o (read_ledger m)
+      go none h = sym (ap (λ (r : Result ℕ Refusal). again r) h)
       go (some L) h = absurd (let z : ◌≡◌ {A = ℕ} 0 1 = cc in omega arith)
 
-  pub ill-right : step_count (read_ledger m) ≡ refused IllFormedLedger → refused IllFormedLedger ≡ repeat_test (read_ledger l) (read_ledger m)
+  pub ill-right : step_count (read_ledger m) ≡ Err e → Err e ≡ repeat_test (read_ledger l) (read_ledger m)
   ill-right h = go (read_ledger l) (read_ledger m) h
     where
-      go : (o p : Option (List Step)) → step_count p ≡ refused IllFormedLedger → refused IllFormedLedger ≡ repeat_test o p
-      go none p h = refl
-      go (some L) none h = refl
-      go (some L) (some M) h = absurd (let z : ◌≡◌ {A = ℕ} 0 1 = cc in omega arith)
+      go : (o p : Option (List Step)) → step_count p ≡ Err e → Err e ≡ repeat_test o p
+      go none none h = sym (ap (λ (r : Result ℕ Refusal). again r) h)
+      go (some L) none h = sym (ap (λ (r : Result ℕ Refusal). again r) h)
+      go o (some M) h = absurd (let z : ◌≡◌ {A = ℕ} 0 1 = cc in omega arith)

@@ -1,15 +1,13 @@
 -- When two ledgers repeat each other (document 01, "Normal form and repeat test").
-use Rattle.std.specs.Prelude.{◌≡◌, Bool, true, false, List, [], ◌∷◌}
+use Rattle.std.specs.Prelude.{◌≡◌, Bool, false, List, [], ◌∷◌, Result, Ok, Err}
 use Rattle.std.proofs.Math.Bool.{decide}
 use Rattle.std.proofs.Math.Option.{Option, none, some}
 use Rattle.std.proofs.Math.Decide.{ℕ_discrete}
 use Rattle.calculus.specs.Judgement.{Judgement, Step, same_list}
 use Rattle.calculus.specs.Table.{p_entails, Pred-discrete, predicate}
 use Rattle.calculus.specs.Record.{operand_bytes}
+use Rattle.refusals.specs.declared.Refusal.{Refusal}
 use Rattle.refusals.specs.declared.Refusal.TheVariants.{IllFormedLedger}
-use Rattle.refusals.specs.Refusals.{Result, refused, done}
-use Rattle.repeat_test.specs.declared.Compared.{Compared}
-use Rattle.repeat_test.specs.declared.Compared.TheVariants.{Repeats, Fresh, Refused}
 
 -- Two judgements make the same claim: both are entails, with equal operand bytes. What counts as a repeat is said here alone.
 pub record SameClaim (j k : Judgement) : Type 0 where
@@ -39,14 +37,8 @@ end_alike none t = false
 end_alike (some s) none = false
 end_alike (some s) (some t) = decide (same_claim? s.judgement t.judgement)
 
--- What each answer says: whether the ledgers repeat each other, or the refusal.
-abbrev pub said : Compared → Result Bool
-said Repeats = done true
-said Fresh = done false
-said (Refused e) = refused e
-
 -- The repeat test on the steps that two ledgers were read as: 1 where either is ill formed, else whether they end alike.
-abbrev pub repeat_test : Option (List Step) → Option (List Step) → Result Bool
-repeat_test none m = refused IllFormedLedger
-repeat_test (some L) none = refused IllFormedLedger
-repeat_test (some L) (some M) = done (end_alike (last_step L) (last_step M))
+abbrev pub repeat_test : Option (List Step) → Option (List Step) → Result Bool Refusal
+repeat_test none m = Err IllFormedLedger
+repeat_test (some L) none = Err IllFormedLedger
+repeat_test (some L) (some M) = Ok (end_alike (last_step L) (last_step M))

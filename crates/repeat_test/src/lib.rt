@@ -7,20 +7,11 @@ ghost use Rattle.calculus.specs.Rules.{judgement_at};
 ghost use Rattle.calculus.specs.Record.{operand_bytes};
 ghost use Rattle.calculus.specs.Parse.{read_ledger};
 ghost use Rattle.ledger.specs.Checks.{step_count};
-ghost use Rattle.refusals.specs.Refusals.{done};
 ghost use Rattle.ledger.specs.Ledger.{steps_of, Points};
-ghost use Rattle.repeat_test.specs.Repeats.{same_claim?, last_step, end_alike, said, repeat_test};
+ghost use Rattle.repeat_test.specs.Repeats.{same_claim?, last_step, end_alike, repeat_test};
 
-use ledger::{Checked, Cursor};
+use ledger::Cursor;
 use refusals::Refusal;
-
-// Whether two ledgers repeat each other, or why they are refused.
-#[derive(Clone, Copy)]
-pub enum Compared {
-    Repeats,
-    Fresh,
-    Refused(Refusal),
-}
 
 // The number of the predicate entails.
 const ENTAILS: usize = 7;
@@ -38,42 +29,27 @@ fn same_claim(l: &[u8], c: Cursor, m: &[u8], e: Cursor) -> bool
     requires { Points l.now c.step c.at × Points m.now e.step e.at }
     ensures { result ≡ decide (same_claim? (judgement_at (steps_of l.now) c.step) (judgement_at (steps_of m.now) e.step)) }
 {
-    if c.predicate(l) != ENTAILS {
-        return false;
-    }
-    if e.predicate(m) != ENTAILS {
-        return false;
-    }
-    formula::same(claim(l, c), claim(m, e))
+    c.predicate(l) == ENTAILS && e.predicate(m) == ENTAILS && claim(l, c) == claim(m, e)
 }
 
 // Whether ledgers of n and k steps end in the same claim.
 fn end_alike(l: &[u8], n: usize, m: &[u8], k: usize) -> bool
-    requires { (step_count (read_ledger l.now) ≡ done n) × (step_count (read_ledger m.now) ≡ done k) }
+    requires { (step_count (read_ledger l.now) ≡ Ok n) × (step_count (read_ledger m.now) ≡ Ok k) }
     ensures { result ≡ end_alike (last_step (steps_of l.now)) (last_step (steps_of m.now)) }
 {
-    if 0 < n {
-        if 0 < k {
-            let c = ledger::seek(l, n - 1);
-            let e = ledger::seek(m, k - 1);
-            return same_claim(l, c, m, e);
-        }
+    if n == 0 || k == 0 {
+        return false;
     }
-    false
+    let c = ledger::seek(l, n - 1);
+    let e = ledger::seek(m, k - 1);
+    same_claim(l, c, m, e)
 }
 
 // Whether both ledgers end in an entails step with equal operand bytes; 1 where either is ill formed.
-pub fn repeats(l: &[u8], m: &[u8]) -> Compared
-    ensures { said result ≡ repeat_test (read_ledger l.now) (read_ledger m.now) }
+pub fn repeats(l: &[u8], m: &[u8]) -> Result<bool, Refusal>
+    ensures { result ≡ repeat_test (read_ledger l.now) (read_ledger m.now) }
 {
-    let Checked::Steps(n) = ledger::well_formed(l) else {
-        return Compared::Refused(Refusal::IllFormedLedger);
-    };
-    let Checked::Steps(k) = ledger::well_formed(m) else {
-        return Compared::Refused(Refusal::IllFormedLedger);
-    };
-    if end_alike(l, n, m, k) {
-        return Compared::Repeats;
-    }
-    Compared::Fresh
+    let n = ledger::well_formed(l)?;
+    let k = ledger::well_formed(m)?;
+    Ok(end_alike(l, n, m, k))
 }

@@ -1,20 +1,16 @@
-use mathlib.Core.Path.{sym, ap, ◌∙◌}
-use Rattle.refusals.specs.Refusals.{done}
+use Rattle.std.proofs.Common.{ap, sym, Ok, ◌∙◌}
+use Rattle.std.proofs.lemmas.Result.{err_from_is_err_and}
 use Rattle.repeat_test.proofs.TestLaws.{both_read, ill-left, ill-right}
-use Rattle.ledger.specs.Checks.{said_checked}
 use Rattle.repeat_test.proofs.repeats.Goals as goal
 
-pub returns-in_default : goal.returns-in_default
-returns-in_default c = ill-left _ _ (sym c.well_formed-2.ensures ∙ ap said_checked c.in_default.is)
+pub returns-in_err-n : goal.returns-in_err-n
+returns-in_err-n c = let p = err_from_is_err_and c.from_residual.result c.from_residual.ensures.1 in rw (p.1, p.2) (ill-left _ _ (sym c.in_err-n.ensures))
 
-pub returns-in_default-well_formed : goal.returns-in_default-well_formed
-returns-in_default-well_formed c = ill-right _ _ (sym c.well_formed-3.ensures ∙ ap said_checked c.in_default-well_formed.is)
+pub returns-in_err-k : goal.returns-in_err-k
+returns-in_err-k c = let p = err_from_is_err_and c.from_residual-in_err-k.result c.from_residual-in_err-k.ensures.1 in rw (p.1, p.2) (ill-right _ _ (sym c.in_err-k.ensures))
 
 pub end_alike-requires : goal.end_alike-requires
-end_alike-requires c = (sym c.well_formed-2.ensures ∙ ap said_checked c.in-Steps.is, sym c.well_formed-3.ensures ∙ ap said_checked c.in-Steps-well_formed.is)
-
-pub returns-then-end_alike : goal.returns-then-end_alike
-returns-then-end_alike c = let a = c.args in ap done (sym c.if-end_alike.true ∙ c.end_alike.ensures) ∙ sym (both_read a.l.now a.m.now (sym c.well_formed-2.ensures ∙ ap said_checked c.in-Steps.is) (sym c.well_formed-3.ensures ∙ ap said_checked c.in-Steps-well_formed.is))
+end_alike-requires c = (sym c.in_ok-n.ensures, sym c.in_ok-k.ensures)
 
 pub returns : goal.returns
-returns c = let a = c.args in ap done (sym c.if-end_alike.false ∙ c.end_alike.ensures) ∙ sym (both_read a.l.now a.m.now (sym c.well_formed-2.ensures ∙ ap said_checked c.in-Steps.is) (sym c.well_formed-3.ensures ∙ ap said_checked c.in-Steps-well_formed.is))
+returns c = let a = c.args in ap Ok c.end_alike.ensures ∙ sym (both_read a.l.now a.m.now (sym c.in_ok-n.ensures) (sym c.in_ok-k.ensures))
