@@ -22,26 +22,25 @@ use Rattle.ledger.proofs.LedgerLaws.{holds-led, formed-at-0, below_one}
 use Rattle.ledger.proofs.CheckLaws.{counted-steps, sought-points}
 use Rattle.ledger.proofs.PointLaws.{inside, points-operands}
 use Rattle.kinds.specs.Kinds.{name_bytes}
-use Rattle.refusals.specs.declared.Refusal.TheVariants.{IllFormedLedger, ShortOutput}
-use Rattle.refusals.specs.Refusals.{refused, done}
-use Rattle.text.specs.declared.Length.TheVariants.{Bytes, Refused}
+use Rattle.std.specs.Prelude.{Ok, Err}
+use Rattle.refusals.specs.declared.Refusal.{Refusal}
+use Rattle.refusals.specs.declared.Refusal.TheVariants.{ShortOutput}
 use Rattle.writing.specs.Writing.{Wrote}
 use Rattle.writing.proofs.DeliverLaws.{short-delivers, wrote-delivers}
 use Rattle.lookup.specs.Lookup.{operands_start, operands_length, kind_of, reference_of, WritesRule}
 
 -- No step where the check refuses.
-counted-ill : (o : Option (List Step)) → step_count o ≡ refused IllFormedLedger → steps_in o ≡ []
+counted-ill : (o : Option (List Step)) {e : Refusal} → step_count o ≡ Err e → steps_in o ≡ []
 counted-ill none h = refl
 counted-ill (some L) h = absurd (let z : ◌≡◌ {A = ℕ} 0 1 = cc in omega arith)
 
 module _ (l : List ℕ) (i : ℕ) where
-  pub has-counted : {n : ℕ} → step_count (read_ledger l) ≡ done n → ltb i n ≡ ltb i (length (steps_of l))
-  unfolding steps_of
-  has-counted h = ap (ltb i) (sym (counted-steps l h))
+  pub has-past : {n : ℕ} → step_count (read_ledger l) ≡ Ok n → n ≤ i → ltb i (length (steps_of l)) ≡ false
+  has-past h b = le-ltb i (length (steps_of l)) (omega (arith, counted-steps l h, b))
 
-  pub has-ill : step_count (read_ledger l) ≡ refused IllFormedLedger → false ≡ ltb i (length (steps_of l))
+  pub has-ill : {e : Refusal} → step_count (read_ledger l) ≡ Err e → ltb i (length (steps_of l)) ≡ false
   unfolding steps_of
-  has-ill h = sym (ap (λ (L : List Step). ltb i (length L)) (counted-ill (read_ledger l) h) ∙ le-ltb i 0 (omega arith))
+  has-ill h = ap (λ (L : List Step). ltb i (length L)) (counted-ill (read_ledger l) h) ∙ le-ltb i 0 (omega arith)
 
   -- Bytes with a step are a ledger.
   found : AllBelow 256 l → ltb i (length (steps_of l)) ≡ true → Led l × (i < length (steps_of l))
@@ -51,9 +50,6 @@ module _ (l : List ℕ) (i : ℕ) where
       go : (o : Option (List Step)) → read_ledger l ≡ o → i < length (steps_in o) → Led l
       go none h b = absurd (omega arith)
       go (some L) h b = holds-led (ledger-read l L a h)
-
-  pub has-found : AllBelow 256 l → {t : Bool} → t ≡ ltb i (length (steps_of l)) → (t ≡ ltb i (length (steps_of l))) × (t ≡ true → Led l × (i < length (steps_of l)))
-  has-found a h = (h, λ e. found a (sym h ∙ e))
 
 -- Where there is such a step.
 module _ {l : List ℕ} {i : ℕ} (p : Led l × (i < length (steps_of l))) where
@@ -178,8 +174,8 @@ module _ (kind : ℕ) {n : ℕ} (e : n ≡ length (name_bytes kind)) where
   wrote : {m m' : List ℕ} → m' ≡ sets m 0 (name_bytes kind) → Wrote (name_bytes kind) m 0 n m'
   wrote h = record { end = e ∙ sym (zero-add (length (name_bytes kind))); bytes = h }
 
-  pub name-short : (out : List ℕ) → length out < n → WritesRule kind out (Refused ShortOutput) out
+  pub name-short : (out : List ℕ) → length out < n → WritesRule kind out (Err ShortOutput) out
   name-short out b = record { equal = (short-delivers (wrote {m = out} refl) b refl).equal }
 
-  pub name-written : {out out' : List ℕ} → n ≤ length out → out' ≡ sets out 0 (name_bytes kind) → WritesRule kind out (Bytes n) out'
+  pub name-written : {out out' : List ℕ} → n ≤ length out → out' ≡ sets out 0 (name_bytes kind) → WritesRule kind out (Ok n) out'
   name-written b h = record { equal = (wrote-delivers (wrote h) b (wrote h)).equal }

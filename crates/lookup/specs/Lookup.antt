@@ -1,14 +1,19 @@
 -- What is answered when a step of a ledger is looked up by its number.
-use Rattle.std.specs.Prelude.{◌≡◌, List, ℕ, ◌+◌, ◌*◌, ltb, length, get_or}
+use Rattle.std.specs.Prelude.{◌≡◌, false, List, ℕ, ◌+◌, ◌*◌, ◌<◌, ltb, length, get_or, Option, Some, None, Result, Ok}
 use Rattle.formula.specs.Answers.{pick}
 use Rattle.calculus.specs.Judgement.{Step}
 use Rattle.calculus.specs.Rules.{step_at}
 use Rattle.calculus.specs.Record.{operand_bytes}
 use Rattle.kinds.specs.Kinds.{name_bytes}
-use Rattle.ledger.specs.Ledger.{place_of}
-use Rattle.refusals.specs.Refusals.{done}
-use Rattle.text.specs.Answers.{delivered, said_length}
-use Rattle.text.specs.declared.Length.{Length}
+use Rattle.ledger.specs.declared.Cursor.{Cursor}
+use Rattle.ledger.specs.Ledger.{steps_of, place_of, Led}
+use Rattle.refusals.specs.declared.Refusal.{Refusal}
+use Rattle.text.specs.Answers.{delivered}
+
+-- For a private contract: step i of a ledger, or that there is none.
+abbrev pub Sought : List ℕ → ℕ → Option Cursor → Type 0
+Sought l i None = ltb i (length (steps_of l)) ≡ false
+Sought l i (Some c) = (Led l × (i < length (steps_of l))) × (c.step ≡ i) × (c.at ≡ place_of (steps_of l) i)
 
 -- A number of step i; 0 where there is no such step.
 abbrev pub of_step : List Step → ℕ → (Step → ℕ) → ℕ
@@ -31,5 +36,5 @@ unfoldable pub reference_of : List Step → ℕ → ℕ → ℕ
 reference_of L i j = of_step L i (λ s. pick (ltb j (length s.references)) (1 + get_or s.references j 0) 0)
 
 -- The answer and every byte of the output are those for the name of the rule of a kind: no byte for a number that is no kind, 6 where the name does not fit.
-pub record WritesRule (kind : ℕ) (out : List ℕ) (r : Length) (out' : List ℕ) : Type 0 where
-  pub equal : delivered (done (name_bytes kind)) out ≡ record { answer = said_length r; output = out' }
+pub record WritesRule (kind : ℕ) (out : List ℕ) (r : Result ℕ Refusal) (out' : List ℕ) : Type 0 where
+  pub equal : delivered (Ok (name_bytes kind)) out ≡ record { answer = r; output = out' }

@@ -1,18 +1,13 @@
-use mathlib.Core.Path.{sym, ◌∙◌}
-use native.Mathlib.Omega.{arith}
 use Rattle.ledger.specs.Ledger.{steps_of}
 use Rattle.ledger.proofs.CheckLaws.{sought-points}
 use Rattle.lookup.proofs.LookupLaws.{kind-none, kind-found}
 use Rattle.lookup.proofs.kind.Goals as goal
 
-pub returns-then-not-has_step : goal.returns-then-not-has_step
-returns-then-not-has_step c = let a = c.args in kind-none (steps_of a.l.now) a.i (sym c.has_step.ensures.0 ∙ c.if-not-has_step.true)
-
-pub seek-requires : goal.seek-requires
-seek-requires c = let p = c.has_step.ensures.1 (c.if-not-has_step.false) in (p.0, omega (arith, p.1))
-
 pub kind-requires : goal.kind-requires
-kind-requires c = let a = c.args in sought-points a.l.now a.i (c.has_step.ensures.1 (c.if-not-has_step.false)) c.seek.ensures
+kind-requires c = sought-points c.args.l.now c.args.i c.in-Some.ensures.0 (c.in-Some.ensures.1, c.in-Some.ensures.2)
 
-pub returns : goal.returns
-returns c = kind-found (c.has_step.ensures.1 (c.if-not-has_step.false)) c.seek.ensures c.kind.ensures
+pub returns-in-Some : goal.returns-in-Some
+returns-in-Some c = kind-found c.in-Some.ensures.0 (c.in-Some.ensures.1, c.in-Some.ensures.2) c.kind.ensures
+
+pub returns-in-None : goal.returns-in-None
+returns-in-None c = kind-none (steps_of c.args.l.now) c.args.i c.in-None.ensures

@@ -14,9 +14,6 @@ slot-i-requires c = omega (arith, c.requires.2, c.requires.0.room, holds-eight c
 pub loop-i-init : goal.loop-i-init
 loop-i-init c = walk_start c.requires.0 c.args.b c.args.predicate c.args.operands.now c.requires.1 _ c.requires.2 c.slot-i.ensures.0
 
-pub overflow_sub-step : goal.overflow_sub-step
-overflow_sub-step c = omega arith
-
 pub find_step-c-requires : goal.find_step-c-requires
 find_step-c-requires c = let k : c.loop-i.i ≡ suc (c.loop-i.i - 1) = omega arith in walk-noted c.requires.0 c.args.b c.args.predicate c.args.operands.now c.requires.1 c.loop-i.invariant (c.loop-i.i - 1) k c.places_from-p.result c.places_from-p.ensures.0
 

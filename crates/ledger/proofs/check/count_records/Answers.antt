@@ -7,47 +7,14 @@ use Rattle.ledger.proofs.check.count_records.Goals as goal
 pub loop-at-init : goal.loop-at-init
 loop-at-init c = (left-all c.args.s.now, omega arith, omega arith)
 
-pub overflow_sub-s : goal.overflow_sub-s
-overflow_sub-s c = omega arith
-
 pub returns-then-s-at-lt4 : goal.returns-then-s-at-lt4
 returns-then-s-at-lt4 c = let a = c.args in let p = c.loop-at in sym (left-short p.i a.s.now p.at c.loop-at-test.true c.if-s-at-lt4.true) ∙ p.invariant.0
-
-pub get4-n-requires : goal.get4-n-requires
-get4-n-requires c = omega arith
-
-pub overflow_add-from : goal.overflow_add-from
-overflow_add-from c = omega arith
-
-pub overflow_sub-s-in-loop-at : goal.overflow_sub-s-in-loop-at
-overflow_sub-s-in-loop-at c = omega arith
 
 pub returns-then-s-from : goal.returns-then-s-from
 returns-then-s-from c = let a = c.args in let p = c.loop-at in sym (left-long p.i a.s.now p.at (omega arith) c.get4-n.ensures.0 c.if-s-from.true) ∙ p.invariant.0
 
-pub overflow_add-to : goal.overflow_add-to
-overflow_add-to c = omega arith
-
-pub slice_bounds-body_fits-count : goal.slice_bounds-body_fits-count
-slice_bounds-body_fits-count c = omega arith
-
-pub slice_bounds-body_fits-start : goal.slice_bounds-body_fits-start
-slice_bounds-body_fits-start c = omega arith
-
-pub slice_bounds-body_fits-end : goal.slice_bounds-body_fits-end
-slice_bounds-body_fits-end c = omega arith
-
-pub body_fits-requires : goal.body_fits-requires
-body_fits-requires c = tt
-
 pub returns-then-not-body_fits : goal.returns-then-not-body_fits
 returns-then-not-body_fits c = let a = c.args in let p = c.loop-at in sym (left-record p.i a.s.now p.at (omega arith) c.get4-n.ensures.0 (omega arith) (sym c.body_fits.ensures ∙ c.if-not-body_fits.true)) ∙ p.invariant.0
-
-pub overflow_add-i : goal.overflow_add-i
-overflow_add-i c = omega arith
-
-pub loop-at-smaller : goal.loop-at-smaller
-loop-at-smaller c = omega arith
 
 pub loop-at-preserved : goal.loop-at-preserved
 loop-at-preserved c = let a = c.args in let p = c.loop-at in (sym (left-record p.i a.s.now p.at (omega arith) c.get4-n.ensures.0 (omega arith) (sym c.body_fits.ensures ∙ c.if-not-body_fits.false)) ∙ p.invariant.0, omega arith, omega arith)

@@ -11,26 +11,11 @@ use Rattle.records.proofs.numbers.zeros_from.Goals as goal
 pub loop-i-init : goal.loop-i-init
 loop-i-init c = (refl, c.requires)
 
-pub overflow_sub-s : goal.overflow_sub-s
-overflow_sub-s c = omega arith
-
-pub bits64-requires : goal.bits64-requires
-bits64-requires c = omega arith
-
 pub returns-then-bits64-ne0 : goal.returns-then-bits64-ne0
 returns-then-bits64-ne0 c = let s = c.args.s.now in let i = c.loop-i.i in sym (sym c.loop-i.invariant.0 ∙ part_step s i 64 ∙ ap (λ (t : Bool). t && all_zero (drop (i + 64) s)) (sym c.bits64.ensures ∙ ne_eqb _ _ c.if-bits64-ne0.true))
 
-pub overflow_add-i : goal.overflow_add-i
-overflow_add-i c = omega arith
-
-pub loop-i-smaller : goal.loop-i-smaller
-loop-i-smaller c = omega arith
-
 pub loop-i-preserved : goal.loop-i-preserved
 loop-i-preserved c = let s = c.args.s.now in let i = c.loop-i.i in (sym (part_step s i 64 ∙ ap (λ (t : Bool). t && all_zero (drop (i + 64) s)) (sym c.bits64.ensures ∙ eq-eqb _ _ c.if-bits64-ne0.false)) ∙ c.loop-i.invariant.0, omega arith)
-
-pub tail_is_zero-requires : goal.tail_is_zero-requires
-tail_is_zero-requires c = omega arith
 
 pub returns : goal.returns
 returns c = c.tail_is_zero.ensures ∙ c.loop-i.invariant.0
