@@ -33,9 +33,6 @@ module _ {A : Type 0} (order : A → A → Ordering) (x : A) where
   unfolding enter
   enter-by d l e = ap (λ o. beside o (x ∷ d ∷ l) (d ∷ l) (d ∷ enter order x l)) e
 
-  pub seeking-start : {l : List A} → Seeking l 0
-  seeking-start = record { left = refl }
-
   module _ {l : List A} {i : ℕ} (s : Seeking l i) where
     turned : {o : Ordering} (d : A) → i < length l → order x (get_or l i d) ≡ o → enter order x l ≡ take i l ++ beside o (x ∷ drop i l) (drop i l) (get_or l i d ∷ enter order x (drop (i + 1) l))
     turned {o} d h e = s.left ∙ ap (λ m. take i l ++ m) (ap (enter order x) (item l i d h) ∙ enter-by (get_or l i d) (drop (i + 1) l) e ∙ ap (λ m. beside o (x ∷ m) m (get_or l i d ∷ enter order x (drop (i + 1) l))) (sym (item l i d h)))
@@ -92,9 +89,6 @@ pub record Sorting {A : Type 0} (order : A → A → Ordering) (xs s : List A) (
   pub few : k ≤ i
   pub left : entered order [] xs ≡ entered order (take k s) (drop i xs)
 
-pub sorting-start : {A : Type 0} {order : A → A → Ordering} {xs s : List A} → Sorting order xs s 0 0
-sorting-start = record { few = omega arith; left = refl }
-
 module _ {A : Type 0} {order : A → A → Ordering} {xs s : List A} {k i : ℕ} (t : Sorting order xs s k i) where
   pub sorting-next : {k' : ℕ} {s' : List A} (d : A) → i < length xs → k ≤ length s → Leads (enter order (get_or xs i d) (take k s)) s k' s' → Sorting order xs s' k' (i + 1)
   unfolding entered
@@ -132,9 +126,6 @@ minimal-cons below all x l = picked (any (λ d. below d x) all) x (minimal below
 pub record Keeping {A : Type 0} (below : A → A → Bool) (xs l : List A) (m i : ℕ) : Type 0 where
   pub few : m ≤ i
   pub left : least_of below xs ≡ take m l ++ minimal below xs (drop i xs)
-
-pub keeping-start : {A : Type 0} {below : A → A → Bool} {xs l : List A} → Keeping below xs l 0 0
-keeping-start = record { few = omega arith; left = refl }
 
 counted : (b : Bool) {w : ℕ} → w ≡ pick b 0 1 → w ≤ 1
 counted true e = omega (arith, e)

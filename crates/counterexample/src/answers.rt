@@ -24,7 +24,7 @@ fn search(d: usize, a: &[u8], b: &[u8], out: &mut [u8]) -> Result<usize, Refusal
         face: b,
         marks: &[],
     };
-    match explore::explore(&left, &right, &mut state[..d], 0, &mut out[..d], None) {
+    match explore::least(&left, &right, &mut state[..d], &mut out[..d]) {
         Some(_) => Ok(d),
         None => Err(Refusal::Implied),
     }

@@ -3,6 +3,8 @@ ghost use Rattle.std.specs.Prelude.{◌≡◌, ◌≤◌, length};
 ghost use Rattle.needs.specs.States.{settled as settled_of};
 ghost use Rattle.counterexample.specs.Exploring.{lowest as lowest_of, spent as spent_of, precedes, hopeless as hopeless_of, without as without_of};
 
+use crate::explore::Best;
+
 // The first byte that a state's byte allows, where k more dimensions may be determined.
 fn lowest(k: usize, s: u8) -> u8
     ensures { result ≡ lowest_of k s }
@@ -44,15 +46,15 @@ fn before(state: &[u8], best: &[u8], k: usize) -> bool
 
 // Whether no assignment that the state allows beats the best so far: each determines `total` dimensions or more, k more
 // than the state has chosen.
-pub fn hopeless(state: &[u8], best: &[u8], k: usize, total: usize, count: Option<usize>) -> bool
-    requires { length best.now ≡ length state.now }
-    ensures { result ≡ hopeless_of state.now best.now k total count }
+pub fn hopeless(state: &[u8], best: &Best, k: usize, total: usize) -> bool
+    requires { length best.now.bytes.now ≡ length state.now }
+    ensures { result ≡ hopeless_of state.now best.now.bytes.now k total best.now.count }
 {
-    match count {
+    match best.count {
         None => state.len() < total,
         Some(c) => {
             let fewer = total < c;
-            !fewer && (c < total || !before(state, best, k))
+            !fewer && (c < total || !before(state, best.bytes, k))
         }
     }
 }

@@ -3,9 +3,8 @@
 #![tactic(auto)]
 
 use desk::Verdict;
-use std::io;
 use std::io::{BufReader, BufWriter, Read, Write};
-use std::mem;
+use std::{io, mem};
 
 // `1` for refusal 1, `@N` for refusal 10 at step N, `pN` for N steps passed.
 fn tell<W: Write>(out: &mut W, v: Verdict) -> io::Result<()> {

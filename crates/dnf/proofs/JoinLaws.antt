@@ -30,10 +30,6 @@ module _ {A : Type 0} (H : Handling A) where
   unfolding prune
   done xs h r = record { told = (r.fits, ap (λ x. pick x (some (prune H xs)) none) (le-leb (length xs) 256 h) ∙ ap some (sym r.here)) }
 
-  -- The pairs of two lists: too many, or pruned, where they stand in a slice behind another.
-  pub both-over : (xs : List A) {l l' l'' : List A} → Adds xs 0 l None l' → Lists (limited H xs) None l''
-  both-over xs a = over xs (omega (arith, a.told))
-
   pub both-done : (xs p : List A) {l l' : List A} {k r : ℕ} {l'' : List A} (at : ℕ) → length p ≡ at → 257 ≤ length l' → Adds xs 0 l (Some k) l' → Fronts (least_of H.below (entered H.order [] (take k (drop at (p ++ l'))))) r l'' → Lists (limited H xs) (Some r) l''
   both-done xs p {l} {l'} {k} {r} {l''} at e m a f =
       let few : length xs ≤ 256 = omega (arith, ap length a.told.1, length-take-le k l' (omega (arith, m, a.told.0)), a.told.0) in

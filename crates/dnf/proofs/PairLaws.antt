@@ -18,9 +18,6 @@ pub record Growing {A : Type 0} (all : List A) (n : ℕ) (l₀ l : List A) (k : 
   pub long : length l ≡ length l₀
   pub made : take k l ++ rest ≡ take n l₀ ++ all
 
-pub growing-start : {A : Type 0} {all : List A} {n : ℕ} {l : List A} → n ≤ 256 → Growing all n l l n all
-growing-start h = record { few = h; long = refl; made = refl }
-
 module _ {A : Type 0} {all : List A} {n : ℕ} {l₀ l : List A} {k : ℕ} {rest : List A} (g : Growing all n l₀ l k rest) where
   pub growing-next : (part rest' : List A) {k' : ℕ} {l' : List A} → rest ≡ part ++ rest' → take k' l' ≡ take k l ++ part → length l' ≡ length l → k' ≤ 256 → Growing all n l₀ l' k' rest'
   growing-next part rest' e p s f = record {

@@ -147,9 +147,6 @@ pub record Summing {A : Type 0} (weigh : A → ℕ) (xs : List A) (i total : ℕ
   pub left : total + further_nodes (map weigh (drop i xs)) ≡ further_nodes (map weigh xs)
   pub few : total ≤ 512 * i
 
-pub summing_start : {A : Type 0} {weigh : A → ℕ} {xs : List A} → Summing weigh xs 0 0
-summing_start {weigh = weigh} {xs} = record { left = omega arith; few = omega arith }
-
 pub summing-next : {A : Type 0} {weigh : A → ℕ} {xs : List A} {i total w : ℕ} {x : A} → Summing weigh xs i total → drop i xs ≡ x ∷ drop (i + 1) xs → w ≡ weigh x → w ≤ 511 → Summing weigh xs (i + 1) (total + (w + 1))
 unfolding further_nodes
 summing-next {weigh = weigh} {xs} {i} {total} {w} s e k h = record { left = omega (arith, s.left, ap (λ l. further_nodes (map weigh l)) e, k); few = omega (arith, s.few, h) }

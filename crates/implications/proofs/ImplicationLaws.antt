@@ -1,27 +1,26 @@
 -- The emitters of entails and endpoint.
-use Prim.Native.Nat.{ℕ, ◌+◌, ◌≤◌}
+use Prim.Native.Nat.{ℕ, ◌≤◌}
 use native.Mathlib.Omega.{arith}
 use mathlib.Core.Path.{◌≡◌, refl, sym, ap, ap₂, ◌∙◌}
-use mathlib.Core.Bool.{Bool}
 use mathlib.Core.List.{List, [], ◌∷◌, ◌++◌, append-nil}
-use lib.ListN.{length}
+use lib.ListN.{length, length-append}
 use Rattle.formula.specs.declared.Sort.TheVariants.{Faces, Intervals}
 use Rattle.formula.specs.Formula.{End, lo, hi, Face, Interval, i0, i1}
 use Rattle.formula.specs.Operations
-use Rattle.formula.specs.Bytes.{dim_bytes, encode, encode_face}
+use Rattle.formula.specs.Bytes.{dim_bytes, encode, encode_face, encode_interval}
 use Rattle.calculus.specs.Judgement.{interval, entails, local}
 use Rattle.calculus.specs.Rules.{Rule}
 use Rattle.calculus.specs.Search.{nodes_context}
 use Rattle.calculus.specs.Record.{faces_bytes, bound_context, operand_bytes}
 use Rattle.calculus.specs.Calls.{side, emit_interval, emit_face, emit_cover, emit_entails, bounds, emit_boundary, emit_endpoint}
-use Rattle.calculus.specs.Door.{end_of}
 use Rattle.calculus.proofs.Growing.{IsEnd, is-i0, is-i1, Limited}
 use Rattle.calculus.proofs.Ends.{local_at}
 use Rattle.steps.specs.Trees.{Is, Known}
 use Rattle.formula.specs.Answers.{tree_of}
 use Rattle.steps.proofs.TreeLaws.{tree-of, is-short}
+use Rattle.boundary_steps.specs.Programs.{Sides}
 use Rattle.boundary_steps.proofs.BoundaryLaws.{side-is}
-use Rattle.contexts.specs.Contexts.{Are, context_of, Context}
+use Rattle.contexts.specs.Contexts.{Are, context_of, Sound}
 use Rattle.contexts.proofs.AfterLaws.{after-three}
 use Rattle.contexts.proofs.ContextLaws.{context-of, context-as}
 
@@ -30,7 +29,7 @@ one-face : {f : Face} {l : List ℕ} → Is Faces f l → Are (f ∷ []) 1 l
 unfolding faces_bytes nodes_context bound_context
 one-face {f} h = record { bytes = h.bytes ∙ sym (append-nil (encode_face f)); count = refl; few = omega (arith, h.few); low = omega (arith, h.low) }
 
-pub context-one : {l : List ℕ} → Known Faces l → Context 1 l
+pub context-one : {l : List ℕ} → Known Faces l → Sound 1 l
 context-one h = context-as (one-face h)
 
 -- That the face of the bytes a entails that of b.
@@ -45,12 +44,13 @@ module _ {d : ℕ} {f g : Face} {a b : List ℕ} (u : Is Faces f a) (v : Is Face
   pub entails-bytes : {c : List ℕ} → c ≡ dim_bytes d → operand_bytes (entails d f g) ≡ c ++ (a ++ b)
   entails-bytes e = sym (ap₂ (λ (x y : List ℕ). x ++ y) e (ap₂ (λ (x y : List ℕ). x ++ y) u.bytes v.bytes))
 
-  pub entails-short : {c : List ℕ} → c ≡ dim_bytes d → length c + length a + length b ≤ 4096
-  entails-short e = omega (arith, ap length e, is-short u, is-short v)
+  pub entails-short : {c : List ℕ} → c ≡ dim_bytes d → length (c ++ (a ++ b)) ≤ 4096
+  entails-short {c} e = omega (arith, ap length e, is-short u, is-short v, length-append c (a ++ b), length-append a b)
 
--- The face of a side, where the end is told.
-pub goal-at : {t u : Bool} {x : List ℕ} (r : Interval) → t ≡ u → x ≡ encode Faces (Operations.boundary (end_of u) r) → x ≡ encode Faces (Operations.boundary (end_of t) r)
-goal-at r e h = h ∙ ap (λ (y : Bool). encode Faces (Operations.boundary (end_of y) r)) (sym e)
+-- The bytes of the face of an end.
+pub goal-at : (e : End) {r x zero one : List ℕ} → x ≡ side e zero one → Sides r zero one → x ≡ encode Faces (Operations.boundary e (tree_of Intervals r))
+goal-at lo i s = i ∙ s.zeros
+goal-at hi i s = i ∙ s.ones
 
 -- That an interval is this end where the face of the bytes p holds.
 pub local-rule : (e : End) {d : ℕ} {f : Face} {r : Interval} → Rule (side e 37 38) (interval d r ∷ bounds r ∷ entails d f (Operations.boundary e r) ∷ []) (local d f r (side e i0 i1))
@@ -74,6 +74,14 @@ module _ {d : ℕ} (e : End) {f : Face} {p r : List ℕ} (u : Is Faces f p) (v :
   pub local-bytes : operand_bytes (local d f (tree_of Intervals r) (side e i0 i1)) ≡ dim_bytes d ++ (p ++ (r ++ encode Intervals (side e i0 i1)))
   local-bytes = sym (ap₂ (λ (x y : List ℕ). dim_bytes d ++ (x ++ (y ++ encode Intervals (side e i0 i1)))) u.bytes v.bytes)
 
--- Its operands as parts, of which the last is empty.
-pub local-operands : {d : ℕ} {c x : List ℕ} (e : End) (p r : List ℕ) → c ≡ dim_bytes d → x ≡ encode Intervals (side e i0 i1) → c ++ (p ++ (r ++ (x ++ []))) ≡ dim_bytes d ++ (p ++ (r ++ encode Intervals (side e i0 i1)))
-local-operands {x} e p r i j = ap₂ (λ (y z : List ℕ). y ++ (p ++ (r ++ z))) i (append-nil x ∙ j)
+-- Its operands as parts.
+pub local-operands : {d : ℕ} {c x : List ℕ} (e : End) (p r : List ℕ) → c ≡ dim_bytes d → x ≡ encode Intervals (side e i0 i1) → c ++ (p ++ (r ++ x)) ≡ dim_bytes d ++ (p ++ (r ++ encode Intervals (side e i0 i1)))
+local-operands e p r i j = ap₂ (λ (y z : List ℕ). y ++ (p ++ (r ++ z))) i j
+
+end-short : (e : End) → length (encode Intervals (side e i0 i1)) ≡ 1
+unfolding encode_interval
+end-short lo = refl
+end-short hi = refl
+
+pub local-short : {d : ℕ} {c x : List ℕ} (e : End) (p r : List ℕ) → length p ≤ 1022 → length r ≤ 1022 → c ≡ dim_bytes d → x ≡ encode Intervals (side e i0 i1) → length (c ++ (p ++ (r ++ x))) ≤ 4096
+local-short {c = c} {x} e p r h k i j = omega (arith, ap length i, ap length j, end-short e, length-append c (p ++ (r ++ x)), length-append p (r ++ x), length-append r x)

@@ -1,30 +1,28 @@
 // A program, by what is asked.
-ghost use Rattle.index.specs.Index.{Indexed};
-ghost use Rattle.steps.specs.Running.{book, Runs};
+ghost use Rattle.steps.specs.Producing.{RunsFor};
 ghost use Rattle.programs.specs.Programs.{program_of, Ready};
 
 use crate::Program;
-use steps::Ran;
+use steps::{Producer, Ran};
 
 // The steps of what is asked about the formulas a and b, whose results are c and e.
 pub(crate) fn emit(
-    l: &mut [u8],
-    ix: &mut [u32],
-    p: Program,
+    p: &mut Producer,
+    program: Program,
     a: &[u8],
     b: &[u8],
     c: &[u8],
     e: &[u8],
 ) -> Ran
-    requires { Indexed l.old ix.old × Ready p a.now b.now c.now e.now }
-    ensures { Runs (book l.old ix.old) (program_of p a.now b.now) result (book l.new ix.new) }
+    requires { Ready program a.now b.now c.now e.now }
+    ensures { RunsFor p.old (program_of program a.now b.now) result p.new }
 {
-    match p {
-        Program::Bounded(sort, d) => bounded_steps::bounded(l, ix, sort, d, a),
-        Program::Entails(d) => implications::entails(l, ix, d, a, b),
-        Program::Endpoint(d, one) => implications::endpoint(l, ix, d, a, b, c, e, one),
-        Program::Boundary => boundary_steps::boundary(l, ix, a, c, e),
-        Program::Forall(k) => forall_steps::forall(l, ix, a, k, c),
-        Program::Transform(sort, op) => transforms::transform(l, ix, sort, op, a, b, c),
+    match program {
+        Program::Bounded(sort, d) => bounded_steps::bounded(p, sort, d, a),
+        Program::Entails(d) => implications::entails(p, d, a, b),
+        Program::Endpoint(d, one) => implications::endpoint(p, d, a, b, c, e, one),
+        Program::Boundary => boundary_steps::boundary(p, a, c, e),
+        Program::Forall(k) => forall_steps::forall(p, a, k, c),
+        Program::Transform(sort, op) => transforms::transform(p, sort, op, a, b, c),
     }
 }

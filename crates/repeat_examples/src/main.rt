@@ -1,7 +1,7 @@
 // The repeat test on pairs of ledgers. tools/repeats/cases.py writes the input, and says what is to be printed.
 #![tactic(auto)]
 
-use repeat_test::Compared;
+use refusals::Refusal;
 use std::io;
 use std::io::{BufReader, BufWriter, Read, Write};
 
@@ -21,11 +21,11 @@ fn name<R: Read, W: Write>(input: &mut R, out: &mut W) -> io::Result<()> {
     write!(out, ": ")
 }
 
-fn tell<W: Write>(out: &mut W, c: Compared) -> io::Result<()> {
-    match c {
-        Compared::Repeats => writeln!(out, "repeats"),
-        Compared::Fresh => writeln!(out, "fresh"),
-        Compared::Refused(e) => writeln!(out, "refused {}", refusals::number(e)),
+fn tell<W: Write>(out: &mut W, repeats: Result<bool, Refusal>) -> io::Result<()> {
+    match repeats {
+        Ok(true) => writeln!(out, "repeats"),
+        Ok(false) => writeln!(out, "fresh"),
+        Err(e) => writeln!(out, "refused {}", refusals::number(e)),
     }
 }
 

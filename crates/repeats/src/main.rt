@@ -1,7 +1,7 @@
 // Says whether the ledgers in two files repeat each other.
 #![tactic(auto)]
 
-use repeat_test::Compared;
+use refusals::Refusal;
 use std::env::Env;
 use std::fs::Files;
 use std::io;
@@ -27,11 +27,11 @@ fn load<'a, R: Env + Files, W: Write>(
     Ok(None)
 }
 
-fn tell<W: Write>(out: &mut W, c: Compared) -> io::Result<()> {
-    match c {
-        Compared::Repeats => writeln!(out, "repeats"),
-        Compared::Fresh => writeln!(out, "fresh"),
-        Compared::Refused(e) => writeln!(out, "refused {}", refusals::number(e)),
+fn tell<W: Write>(out: &mut W, repeats: Result<bool, Refusal>) -> io::Result<()> {
+    match repeats {
+        Ok(true) => writeln!(out, "repeats"),
+        Ok(false) => writeln!(out, "fresh"),
+        Err(e) => writeln!(out, "refused {}", refusals::number(e)),
     }
 }
 

@@ -5,6 +5,7 @@ use std::io;
 use std::io::Write;
 
 // The calls by their kinds, the steps and the refusals by their numbers, and how many lists, calls and differences there were.
+#[derive(Drop)]
 pub struct Tally {
     kinds: [usize; 10],
     steps: usize,

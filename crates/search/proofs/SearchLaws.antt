@@ -14,7 +14,7 @@ use Rattle.calculus.specs.Search.{Move, split_of, try_right, move}
 use Rattle.calculus.specs.Record.{operand_bytes}
 use Rattle.calculus.specs.Emit.{Program, ◌>>=◌, attempt}
 use Rattle.calculus.specs.Calls.{emit_take, emit_move, emit_cover}
-use Rattle.std.specs.Prelude.{Ok, Err}
+use Rattle.std.specs.Prelude.{Err}
 use Rattle.steps.specs.declared.Stop.{Stop}
 use Rattle.steps.specs.declared.Stop.TheVariants.{NotBelow, NotImplied, Full}
 use Rattle.steps.specs.Running.{Ran, Book, done_by, step_by, Runs, Emits}

@@ -11,8 +11,7 @@ use Rattle.formula.specs.declared.Kind.TheVariants.{Nullary, Literal, Unary, Bin
 use Rattle.formula.specs.Bytes.{Tree, dim_width, dim_at, leaf, lit, one, two, Got, got, read}
 use Rattle.formula.specs.Answers.{kind_of}
 use Rattle.writing.specs.Texts.{items_text, unary_text, formula_text}
-use Rattle.writing.specs.Writing.{Room, Wrote, node_name, Names, opened, Fronts, Printed, Prints, FormulaFronts, FormulaPrints}
-use Rattle.writing.specs.declared.Place.{Place}
+use Rattle.writing.specs.Writing.{Place, Room, Wrote, node_name, Names, opened, Fronts, Printed, Prints, FormulaFronts, FormulaPrints}
 use Rattle.writing.proofs.WriteLaws.{wrote-next, wrote_as, room_as, room-first, room_next}
 use Rattle.writing.proofs.TextLaws.{spells-as, View, a-leaf, a-lit, a_one, a-two, view}
 

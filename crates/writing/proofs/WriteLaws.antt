@@ -13,7 +13,8 @@ use mathlib.Core.List.{List, [], ◌∷◌, ◌++◌}
 use lib.ListN.{length, take, set, length-append, length-set}
 use lib.Seq.{sets, length-sets, set_out, take_all}
 use Rattle.text.proofs.ParseLaws.{sets-append}
-use Rattle.writing.specs.Writing.{Room, Wrote, times}
+use Rattle.writing.specs.Writing.{Room, Wrote, Writes, times}
+use Rattle.writing.specs.declared.Writer.{Writer}
 
 -- Beyond the end nothing is written.
 pub sets-beyond : (x d : List ℕ) (i : ℕ) → length d ≤ i → sets d i x ≡ d
@@ -82,9 +83,19 @@ times-room n m x h k e = record { fits = omega (arith, h.fits, times-low n m x k
 pub wrote_none : {out : List ℕ} {to : ℕ} → Wrote [] out to to out
 wrote_none {to = to} = record { end = sym (add-zero to); bytes = refl }
 
-pub times-wrote : (i : ℕ) {x out out' out'' : List ℕ} {to at r : ℕ} → Wrote (times i x) out to at out' → Wrote x out' at r out'' → Wrote (times (i + 1) x) out to r out''
-times-wrote i {x} h k = wrote_as (sym (times_more i x)) (wrote-next h k)
-
 -- The place behind, told in another way.
 pub wrote-to : {x out out' : List ℕ} {to r s : ℕ} → r ≡ s → Wrote x out to r out' → Wrote x out to s out'
 wrote-to e h = record { end = sym e ∙ h.end; bytes = h.bytes }
+
+-- The same of a writer, whose output is the same one throughout.
+pub writes-next : {x y : List ℕ} {w w₁ w₂ : Writer} → Writes x w w₁ → Writes y w₁ w₂ → Writes (x ++ y) w w₂
+writes-next h k = record { wrote = wrote-next h.wrote k.wrote; same = k.same ∙ h.same }
+
+pub writes-as : {x y : List ℕ} {w w' : Writer} → x ≡ y → Writes x w w' → Writes y w w'
+writes-as e h = record { wrote = wrote_as e h.wrote; same = h.same }
+
+pub writes-none : {w : Writer} → Writes [] w w
+writes-none = record { wrote = wrote_none; same = refl }
+
+pub writes-more : (i : ℕ) {x : List ℕ} {w w₁ w₂ : Writer} → Writes (times i x) w w₁ → Writes x w₁ w₂ → Writes (times (i + 1) x) w w₂
+writes-more i {x} h k = writes-as (sym (times_more i x)) (writes-next h k)

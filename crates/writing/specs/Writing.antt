@@ -7,7 +7,7 @@ use Rattle.text.specs.Words.{names, first_kind}
 use Rattle.text.specs.Wholes.{Delivers}
 use Rattle.refusals.specs.declared.Refusal.{Refusal}
 use Rattle.writing.specs.Texts.{formula_text}
-use Rattle.writing.specs.declared.Place.{Place}
+use Rattle.writing.specs.declared.Writer.{Writer}
 
 -- A text from this place on ends at a number that can be computed.
 pub record Room (to : ℕ) (x : List ℕ) : Type 0 where
@@ -17,6 +17,11 @@ pub record Room (to : ℕ) (x : List ℕ) : Type 0 where
 pub record Wrote (x out : List ℕ) (to r : ℕ) (out' : List ℕ) : Type 0 where
   pub end : r ≡ to + length x
   pub bytes : out' ≡ sets out to x
+
+-- A writer wrote the text x, to the same output.
+pub record Writes (x : List ℕ) (w w' : Writer) : Type 0 where
+  pub wrote : Wrote x w.out.now w.to w'.to w'.out.now
+  pub same : w'.out.ghost_name ≡ w.out.ghost_name
 
 -- A text so many times.
 unfoldable pub times : ℕ → List ℕ → List ℕ
@@ -35,6 +40,11 @@ pub record Names (s : Sort) (b : ℕ) : Type 0 where
 -- The beginning of a node's list.
 abbrev pub opened : Sort → ℕ → List ℕ
 opened s b = 40 ∷ node_name s b ++ (32 ∷ [])
+
+-- Behind what was read in the bytes, and behind its text in the output.
+pub record Place : Type 0 where
+  pub at : ℕ
+  pub to : ℕ
 
 -- Something is read in front of the bytes, and there is room for its text.
 pub record Fronts {A : Type 0} (R : List ℕ → Got A) (T : A → List ℕ) (l : List ℕ) (to : ℕ) : Type 0 where
@@ -58,6 +68,14 @@ FormulaFronts s l to = Fronts (read s) (formula_text s) l to
 
 abbrev pub FormulaPrints : Sort → List ℕ → List ℕ → ℕ → Place → List ℕ → Type 0
 FormulaPrints s l out to r out' = Prints (read s) (formula_text s) l out to r out'
+
+-- A writer wrote what is read in front of the bytes, which takes n of them, to the same output.
+pub record PrintsFor {A : Type 0} (R : List ℕ → Got A) (T : A → List ℕ) (l : List ℕ) (w : Writer) (n : ℕ) (w' : Writer) : Type 0 where
+  pub prints : Prints R T l w.out.now w.to (record { at = n; to = w'.to }) w'.out.now
+  pub same : w'.out.ghost_name ≡ w.out.ghost_name
+
+abbrev pub FormulaWrites : Sort → List ℕ → Writer → ℕ → Writer → Type 0
+FormulaWrites s l w n w' = PrintsFor (read s) (formula_text s) l w n w'
 
 -- The text of the formula in front of the bytes was delivered.
 pub record Delivered (s : Sort) (l out : List ℕ) (r : Result ℕ Refusal) (out' : List ℕ) : Type 0 where

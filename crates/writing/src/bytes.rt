@@ -1,40 +1,43 @@
-// Bytes at a place of an output, as far as it reaches: on a slice without bytes the writer only measures.
-ghost use Rattle.std.specs.Prelude.{◌≤◌, [], ◌∷◌};
-ghost use Rattle.writing.specs.Writing.{Room, Wrote, times};
+// Bytes at the place of a writer, as far as its output reaches.
+ghost use Rattle.std.specs.Prelude.{[], ◌∷◌};
+ghost use Rattle.writing.specs.Writing.{Room, Writes, times};
 
-// Writes x from `to` on; the place behind it.
-pub fn put(x: &[u8], out: &mut [u8], to: usize) -> usize
-    requires { Room to x.now }
-    ensures { Wrote x.now out.old to result out.new }
-{
-    let end = to + x.len();
-    if out.len() <= to {
-        return end;
-    }
-    let fits = x.len().min(out.len() - to);
-    formula::copy(&x[..fits], out, to);
-    end
-}
+use crate::Writer;
 
-// Writes one byte.
-pub fn put_byte(b: u8, out: &mut [u8], to: usize) -> usize
-    requires { Room to (b ∷ []) }
-    ensures { Wrote (b ∷ []) out.old to result out.new }
-{
-    if to < out.len() {
-        out[to] = b;
+impl Writer<'_> {
+    // Writes x.
+    pub fn put(&mut self, x: &[u8])
+        requires { Room self.old.to x.now }
+        ensures { Writes x.now self.old self.new }
+    {
+        let to = self.to;
+        self.to = to + x.len();
+        if self.out.len() <= to {
+            return;
+        }
+        let fits = x.len().min(self.out.len() - to);
+        formula::copy(&x[..fits], self.out, to);
     }
-    to + 1
-}
 
-// Writes x so many times.
-pub(crate) fn put_times(x: &[u8], n: usize, out: &mut [u8], to: usize) -> usize
-    requires { Room to (times n x.now) }
-    ensures { Wrote (times n x.now) out.old to result out.new }
-{
-    let mut at = to;
-    for i in 0..n {
-        at = put(x, out, at);
+    // Writes one byte.
+    pub fn put_byte(&mut self, b: u8)
+        requires { Room self.old.to (b ∷ []) }
+        ensures { Writes (b ∷ []) self.old self.new }
+    {
+        let to = self.to;
+        self.to = to + 1;
+        if to < self.out.len() {
+            self.out[to] = b;
+        }
     }
-    at
+
+    // Writes x so many times.
+    pub(crate) fn put_times(&mut self, x: &[u8], n: usize)
+        requires { Room self.old.to (times n x.now) }
+        ensures { Writes (times n x.now) self.old self.new }
+    {
+        for i in 0..n {
+            self.put(x);
+        }
+    }
 }

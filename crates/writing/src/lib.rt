@@ -5,13 +5,11 @@ mod bytes;
 mod formulas;
 mod numbers;
 
-pub use bytes::{put, put_byte};
-pub use formulas::{formula, write_formula};
-pub use numbers::{decimal, unary};
+pub use formulas::write_formula;
 
-// Where a writer is: in the bytes that it reads, and in the output.
-#[derive(Clone, Copy)]
-pub struct Place {
-    pub at: usize,
+// An output, and the place in it from which the next text is written. On a slice without bytes it only measures.
+#[derive(Drop)]
+pub struct Writer<'a> {
+    pub out: &'a mut [u8],
     pub to: usize,
 }

@@ -1,30 +1,35 @@
 // Numbers: unary in judgements, decimal for steps.
 ghost use Rattle.writing.specs.Texts.{unary_text, decimal_text};
-ghost use Rattle.writing.specs.Writing.{Room, Wrote};
+ghost use Rattle.writing.specs.Writing.{Room, Writes};
 
-use crate::bytes;
+use crate::Writer;
 
-// Writes n in unary. Where the output ends before it, only its length counts.
-pub fn unary(n: usize, out: &mut [u8], to: usize) -> usize
-    requires { Room to (unary_text n) }
-    ensures { Wrote (unary_text n) out.old to result out.new }
-{
-    if out.len() <= to {
-        return to + (4 * n + 1);
+impl Writer<'_> {
+    // Writes n in unary. Where the output ends before it, only its length counts.
+    pub fn unary(&mut self, n: usize)
+        requires { Room self.old.to (unary_text n) }
+        ensures { Writes (unary_text n) self.old self.new }
+    {
+        let to = self.to;
+        if self.out.len() <= to {
+            self.to = to + (4 * n + 1);
+            return;
+        }
+        self.put_times(b"(s ", n);
+        self.put_byte(b'z');
+        self.put_times(b")", n);
     }
-    let a = bytes::put_times(b"(s ", n, out, to);
-    let b = bytes::put_byte(b'z', out, a);
-    bytes::put_times(b")", n, out, b)
-}
 
-// Writes n in decimal.
-pub fn decimal(n: usize, out: &mut [u8], to: usize) -> usize
-    requires { Room to (decimal_text n) }
-    ensures { Wrote (decimal_text n) out.old to result out.new }
-{
-    if n < 10 {
-        return bytes::put_byte(b'0' + n as u8, out, to);
+    // Writes n in decimal.
+    pub fn decimal(&mut self, n: usize)
+        requires { Room self.old.to (decimal_text n) }
+        ensures { Writes (decimal_text n) self.old self.new }
+    {
+        if n < 10 {
+            self.put_byte(b'0' + n as u8);
+            return;
+        }
+        self.decimal(n / 10);
+        self.put_byte(b'0' + (n % 10) as u8);
     }
-    let at = decimal(n / 10, out, to);
-    bytes::put_byte(b'0' + (n % 10) as u8, out, at)
 }

@@ -2,22 +2,22 @@ use Rattle.programs.proofs.ProgramLaws.{ready, asked-runs}
 use Rattle.programs.proofs.emitters.emit.Goals as goal
 
 pub bounded-requires : goal.bounded-requires
-bounded-requires c = let r = ready c.args.a.now c.args.b.now c.args.c.now c.args.e.now c.in-Bounded.is c.requires.1 in (c.requires.0, r.0, r.1)
+bounded-requires c = let r = ready c.args.a.now c.args.b.now c.args.c.now c.args.e.now c.in-Bounded.is c.requires in (r.0, r.1)
 
 pub entails-requires : goal.entails-requires
-entails-requires c = let r = ready c.args.a.now c.args.b.now c.args.c.now c.args.e.now c.in-Entails.is c.requires.1 in (c.requires.0, r.0, r.1, r.2)
+entails-requires c = let r = ready c.args.a.now c.args.b.now c.args.c.now c.args.e.now c.in-Entails.is c.requires in (r.0, r.1, r.2)
 
 pub endpoint-requires : goal.endpoint-requires
-endpoint-requires c = let r = ready c.args.a.now c.args.b.now c.args.c.now c.args.e.now c.in-Endpoint.is c.requires.1 in (c.requires.0, r.0, r.1, r.2, r.3)
+endpoint-requires c = let r = ready c.args.a.now c.args.b.now c.args.c.now c.args.e.now c.in-Endpoint.is c.requires in (r.0, r.1, r.2, r.3)
 
 pub boundary-requires : goal.boundary-requires
-boundary-requires c = let r = ready c.args.a.now c.args.b.now c.args.c.now c.args.e.now c.in-Boundary.is c.requires.1 in (c.requires.0, r.0, r.1)
+boundary-requires c = let r = ready c.args.a.now c.args.b.now c.args.c.now c.args.e.now c.in-Boundary.is c.requires in (r.0, r.1)
 
 pub forall-requires : goal.forall-requires
-forall-requires c = let r = ready c.args.a.now c.args.b.now c.args.c.now c.args.e.now c.in-Forall.is c.requires.1 in (c.requires.0, r.0, r.1, r.2)
+forall-requires c = let r = ready c.args.a.now c.args.b.now c.args.c.now c.args.e.now c.in-Forall.is c.requires in (r.0, r.1, r.2)
 
 pub transform-requires : goal.transform-requires
-transform-requires c = let r = ready c.args.a.now c.args.b.now c.args.c.now c.args.e.now c.in-Transform.is c.requires.1 in (c.requires.0, r.0, r.1, r.2)
+transform-requires c = let r = ready c.args.a.now c.args.b.now c.args.c.now c.args.e.now c.in-Transform.is c.requires in (r.0, r.1, r.2)
 
 pub returns-in-Bounded : goal.returns-in-Bounded
 returns-in-Bounded c = asked-runs c.args.a.now c.args.b.now c.in-Bounded.is c.bounded.ensures

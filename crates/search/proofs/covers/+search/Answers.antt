@@ -1,6 +1,5 @@
 use native.Mathlib.Omega.{arith}
 use mathlib.Core.Path.{refl, sym, ◌∙◌}
-use lib.Seq.{length-take-le}
 use Rattle.calculus.specs.Rules
 use Rattle.calculus.specs.Emit.{not-implied}
 use Rattle.std.proofs.lemmas.Result.{err_from_is_err_and}

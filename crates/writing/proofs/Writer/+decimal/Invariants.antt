@@ -1,4 +1,4 @@
-use Rattle.writing.proofs.numbers.+decimal.Given as goal
+use Rattle.writing.proofs.Writer.+decimal.Given as goal
 
 abbrev pub decreases-decimal : goal.decreases-decimal
 decreases-decimal l = l.n
