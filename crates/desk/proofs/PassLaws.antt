@@ -12,8 +12,8 @@ use Rattle.calculus.specs.Parse.{read_ledger}
 use Rattle.calculus.specs.Desk.{DeskAnswer, unreadable, judged, no-ledger, on-steps, DeskGives}
 use Rattle.calculus.proofs.Records.{read-ledger}
 use Rattle.calculus.proofs.Desk.{Up, one_more}
-use Rattle.refusals.specs.declared.Refusal.TheVariants.{IllFormedLedger}
-use Rattle.refusals.specs.Refusals.{refused}
+use Rattle.refusals.specs.declared.Refusal.{Refusal}
+use Rattle.std.specs.Prelude.{Err}
 use Rattle.ledger.specs.Checks.{step_count}
 use Rattle.ledger.specs.Ledger.{steps_of, place_of, Led, Points}
 use Rattle.ledger.specs.Noting.{Noted, Notes}
@@ -31,8 +31,8 @@ pub record Passing (l : List ℕ) (step at : ℕ) (places : List ℕ) : Type 0 w
   pub noted : Noted (steps_of l) step places
   pub up : Up (steps_of l) step
 
-pub passing-start : {l : List ℕ} → Led l → (places : List ℕ) → length places ≡ 10923 → Passing l 0 4 places
-passing-start {l} h places e = record { walks = walks-start h; size = e; noted = noted-none (steps_of l) places; up = λ j b. absurd (omega arith) }
+pub passing-start : {l : List ℕ} {step at : ℕ} → Led l → (places : List ℕ) → length places ≡ 10923 → step ≡ 0 → at ≡ 4 → Passing l step at places
+passing-start {l} h places e p q = rw (p, q) (record { walks = walks-start h; size = e; noted = noted-none (steps_of l) places; up = λ j b. absurd (omega arith) })
 
 module _ {l : List ℕ} {step at : ℕ} {places : List ℕ} (g : Passing l step at places) where
   pub passing-points : step < length (steps_of l) → Points l step at
@@ -64,10 +64,10 @@ module _ {l : List ℕ} {step at : ℕ} {places : List ℕ} (g : Passing l step 
 
 -- On bytes -------------------------------------------------------------------------------------------
 
-pub ill-answer : (l : List ℕ) → step_count (read_ledger l) ≡ refused IllFormedLedger → DeskGives answer_as l Ill
-ill-answer l h = go (read_ledger l) refl h
+pub ill-answer : (l : List ℕ) (x : Refusal) → step_count (read_ledger l) ≡ Err x → DeskGives answer_as l Ill
+ill-answer l x h = go (read_ledger l) refl h
   where
-    go : (o : Option (List Step)) → read_ledger l ≡ o → step_count o ≡ refused IllFormedLedger → DeskGives answer_as l Ill
+    go : (o : Option (List Step)) → read_ledger l ≡ o → step_count o ≡ Err x → DeskGives answer_as l Ill
     go none e h = record { answer = unreadable; says = no-ledger e; given = refl }
     go (some L) e h = absurd (let z : ◌≡◌ {A = ℕ} 0 1 = cc in omega arith)
 

@@ -1,58 +1,33 @@
 // Where the judgements of a step and of its references stand, as the matcher takes them.
-ghost use Rattle.std.specs.Prelude.{◌≡◌, suc, ◌<◌, length};
+ghost use Rattle.std.specs.Prelude.{◌≡◌, suc, length};
 ghost use Rattle.calculus.specs.Rules.{step_at};
 ghost use Rattle.ledger.specs.Ledger.{steps_of, Points};
 ghost use Rattle.ledger.specs.Noting.{Noted};
-ghost use Rattle.desk.specs.Walking.{Filled, Fills, cited};
+ghost use Rattle.desk.specs.Walking.{Claimed, Filled, cited};
 
 use ledger::{Cursor, places};
+use rules::Claim;
 
-// Claim m is that of the step.
-pub(crate) fn claim_step(
-    l: &[u8],
-    c: Cursor,
-    m: usize,
-    preds: &mut [usize; 4],
-    from: &mut [usize; 4],
-    to: &mut [usize; 4],
-)
-    requires { Points l.now c.step c.at × (m < 4) }
-    ensures { Fills l.now m c.step preds.old from.old to.old preds.new from.new to.new }
-{
-    preds[m] = c.predicate(l);
-    from[m] = c.operands_from(l);
-    let e = c.next(l);
-    to[m] = e.at;
-}
-
-// How many references the step has.
-pub(crate) fn reference_count(l: &[u8], c: Cursor) -> usize
+// The claim of the step.
+pub(crate) fn claim_of(l: &[u8], c: Cursor) -> Claim
     requires { Points l.now c.step c.at }
-    ensures { (result ≡ length (step_at (steps_of l.now) c.step).references) × (result < 4) }
+    ensures { Claimed l.now result c.step }
 {
-    match kinds::entry_of(c.kind(l)) {
-        kinds::Entry::Listed(n, _) => n,
-        kinds::Entry::Unlisted => 0,
+    let next = c.next(l);
+    Claim {
+        predicate: c.predicate(l),
+        from: c.operands_from(l),
+        to: next.at,
     }
 }
 
-// The claims of the step's n references, behind its own.
-pub(crate) fn claim_references(
-    l: &[u8],
-    noted: &[u32],
-    c: Cursor,
-    n: usize,
-    preds: &mut [usize; 4],
-    from: &mut [usize; 4],
-    to: &mut [usize; 4],
-)
-    requires { Points l.now c.step c.at × Noted (steps_of l.now) c.step noted.now × (n ≡ length (step_at (steps_of l.now) c.step).references) × (n < 4) × Filled l.now (cited (steps_of l.now) c.step) 1 preds.old from.old to.old }
-    ensures { Filled l.now (cited (steps_of l.now) c.step) (suc n) preds.new from.new to.new }
+// The claims of the step's references, behind its own.
+pub(crate) fn claim_references(l: &[u8], noted: &[u32], c: Cursor, claims: &mut [Claim])
+    requires { Points l.now c.step c.at × Noted (steps_of l.now) c.step noted.now × (length claims.old ≡ suc (length (step_at (steps_of l.now) c.step).references)) × Filled l.now (cited (steps_of l.now) c.step) 1 claims.old }
+    ensures { (length claims.new ≡ length claims.old) × Filled l.now (cited (steps_of l.now) c.step) (length claims.new) claims.new }
 {
-    let mut j: usize = 0;
-    while j < n {
-        let d = places::find_step(l, noted, c.reference(l, j));
-        claim_step(l, d, j + 1, preds, from, to);
-        j += 1;
+    for j in 1..claims.len() {
+        let d = places::find_step(l, noted, c.reference(l, j - 1));
+        claims[j] = claim_of(l, d);
     }
 }
