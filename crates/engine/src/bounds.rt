@@ -5,27 +5,25 @@ ghost use Rattle.runs.specs.Calls.{bounded_call};
 ghost use Rattle.replies.specs.Replying.{said, Replies};
 
 use formula::Sort;
-use replies::{Called, Gate};
+use refusals::Refusal;
 
 // The call, over the sort.
-fn bounded(l: &mut [u8], sort: Sort, d: usize, f: &[u8]) -> Called
+fn bounded(l: &mut [u8], sort: Sort, d: usize, f: &[u8]) -> Result<usize, Refusal>
     ensures { Replies (bounded_call sort d f.now) l.old (said result) l.new [] }
 {
-    match replies::one(l, sort, f, d <= 255) {
-        Gate::Open => runs::bounded(l, sort, d, f),
-        Gate::Shut(e) => Called::Refused(e),
-    }
+    replies::one(l, sort, f, d <= 255)?;
+    runs::bounded(l, sort, d, f)
 }
 
 // The step that all dimensions of the face f are below d.
-pub fn face(l: &mut [u8], d: usize, f: &[u8]) -> Called
+pub fn face(l: &mut [u8], d: usize, f: &[u8]) -> Result<usize, Refusal>
     ensures { Replies (face_call d f.now) l.old (said result) l.new [] }
 {
     bounded(l, Sort::Faces, d, f)
 }
 
 // The step that all dimensions of the interval r are below d.
-pub fn interval(l: &mut [u8], d: usize, r: &[u8]) -> Called
+pub fn interval(l: &mut [u8], d: usize, r: &[u8]) -> Result<usize, Refusal>
     ensures { Replies (interval_call d r.now) l.old (said result) l.new [] }
 {
     bounded(l, Sort::Intervals, d, r)

@@ -4,24 +4,20 @@ ghost use Rattle.calculus.specs.Door.{endpoint as endpoint_call, entails as enta
 ghost use Rattle.replies.specs.Replying.{said, Replies};
 
 use formula::Sort;
-use replies::{Called, Gate};
+use refusals::Refusal;
 
 // The step that the face a implies the face b over d; 8 where a dimension is not below d, 9 where it does not.
-pub fn entails(l: &mut [u8], d: usize, a: &[u8], b: &[u8]) -> Called
+pub fn entails(l: &mut [u8], d: usize, a: &[u8], b: &[u8]) -> Result<usize, Refusal>
     ensures { Replies (entails_call d a.now b.now) l.old (said result) l.new [] }
 {
-    match replies::two(l, Sort::Faces, a, Sort::Faces, b, d <= 255) {
-        Gate::Open => runs::entails(l, d, a, b),
-        Gate::Shut(e) => Called::Refused(e),
-    }
+    replies::two(l, Sort::Faces, a, Sort::Faces, b, d <= 255)?;
+    runs::entails(l, d, a, b)
 }
 
 // The step that the interval r is the end `one` or zero wherever the face phi holds.
-pub fn endpoint(l: &mut [u8], d: usize, phi: &[u8], r: &[u8], one: bool) -> Called
+pub fn endpoint(l: &mut [u8], d: usize, phi: &[u8], r: &[u8], one: bool) -> Result<usize, Refusal>
     ensures { Replies (endpoint_call d phi.now r.now one) l.old (said result) l.new [] }
 {
-    match replies::two(l, Sort::Faces, phi, Sort::Intervals, r, d <= 255) {
-        Gate::Open => runs::endpoint(l, d, phi, r, one),
-        Gate::Shut(e) => Called::Refused(e),
-    }
+    replies::two(l, Sort::Faces, phi, Sort::Intervals, r, d <= 255)?;
+    runs::endpoint(l, d, phi, r, one)
 }

@@ -18,12 +18,12 @@ use Rattle.records.proofs.PlaceLaws.{little-at, little-short}
 use Rattle.kinds.specs.Kinds.{field_as}
 use Rattle.kinds.specs.declared.Field.{Field as Told}
 use Rattle.writing.specs.Texts.{items_text, unary_text, face_text}
-use Rattle.writing.specs.Writing.{Room, Wrote, FormulaFronts, FormulaPrints}
-use Rattle.writing.specs.declared.Place.{Place}
+use Rattle.writing.specs.declared.Writer.{Writer}
+use Rattle.writing.specs.Writing.{Place, Room, Wrote, FormulaFronts, FormulaPrints}
 use Rattle.writing.proofs.WriteLaws.{wrote-next, wrote_as, room_as, room-first, room_next}
 use Rattle.writing.proofs.FormulaLaws.{part-rest}
 use Rattle.listing.specs.Lines.{context_text, field_text, value_texts}
-use Rattle.listing.specs.Writing.{NumberFronts, NumberPrints, FacesFront, FacesPrint, ContextFronts, ContextPrints, field_of, FieldFronts, FieldPrints, ValuesFront, ValuesPrint}
+use Rattle.listing.specs.Writing.{NumberFronts, NumberPrints, FacesFront, FacesPrint, ContextFronts, ContextPrints, field_of, FieldFronts, FieldPrints, FieldWrites, ValuesFront, ValuesPrint}
 
 -- What was read was read in turn.
 pub record Turned {A B : Type 0} (r : Got A) (k : A → List ℕ → Got B) (b : B) (m : List ℕ) : Type 0 where
@@ -185,8 +185,8 @@ module _ (l : List ℕ) {out out' : List ℕ} {to n : ℕ} {q : Place} (e : n �
 pub field-fronts : {k t : Told} {l : List ℕ} {to : ℕ} → k ≡ t → FieldFronts (field_of k) l to → FieldFronts (field_of t) l to
 field-fronts {l = l} {to} e f = subst (λ (k : Told). FieldFronts (field_of k) l to) e f
 
-pub field-prints : {k t : Told} {l out out' : List ℕ} {to : ℕ} {r : Place} → k ≡ t → FieldPrints (field_of t) l out to r out' → FieldPrints (field_of k) l out to r out'
-field-prints {l = l} {out} {out'} {to} {r} e f = subst (λ (k : Told). FieldPrints (field_of k) l out to r out') (sym e) f
+pub field-writes : {k t : Told} {l : List ℕ} {w w' : Writer} {n : ℕ} → k ≡ t → FieldWrites (field_of t) l w n w' → FieldWrites (field_of k) l w n w'
+field-writes {l = l} {w} {w'} {n} e f = subst (λ (k : Told). FieldWrites (field_of k) l w n w') (sym e) f
 
 field-of : (c : Field) → field_of (field_as c) ≡ c
 field-of number = refl

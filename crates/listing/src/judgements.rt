@@ -1,89 +1,78 @@
 // Judgements: the name of the predicate and its operands, in document 01's printed order.
 ghost use Rattle.std.specs.Prelude.{◌≡◌, ◌<◌, [], map, get_or};
 ghost use Rattle.calculus.specs.Judgement.{Step};
-ghost use Rattle.writing.specs.Writing.{Room, Wrote};
+ghost use Rattle.writing.specs.Writing.{Room, Writes};
 ghost use Rattle.listing.specs.Lines.{predicate_names, judgement_text};
-ghost use Rattle.listing.specs.Writing.{NumberFronts, NumberPrints, FacesFront, FacesPrint, ContextFronts, ContextPrints, field_of, FieldFronts, FieldPrints, ValuesFront, ValuesPrint, step_of, Shows};
+ghost use Rattle.listing.specs.Writing.{NumberFronts, NumberWrites, FacesFront, FacesWrite, ContextFronts, ContextWrites, field_of, FieldFronts, FieldWrites, ValuesFront, ValuesWrite, step_of, Shows};
 
 use formula::Sort;
 use kinds::Field;
 use ledger::Cursor;
-use writing::Place;
+use writing::Writer;
 
-// Writes the number in front of f.
-fn number(f: &[u8], out: &mut [u8], to: usize) -> Place
-    requires { NumberFronts f.now to }
-    ensures { NumberPrints f.now out.old to result out.new }
+// Writes the number in front of f; how many bytes it takes there.
+fn number(f: &[u8], w: &mut Writer) -> usize
+    requires { NumberFronts f.now w.old.to }
+    ensures { NumberWrites f.now w.old result w.new }
 {
     let n = formula::dim_at(f, 0);
-    Place {
-        at: formula::DIM,
-        to: writing::unary(n, out, to),
-    }
+    w.unary(n);
+    formula::DIM
 }
 
-// Writes the n faces in front of f as a context.
-fn faces(n: usize, f: &[u8], out: &mut [u8], to: usize) -> Place
-    requires { FacesFront n f.now to }
-    ensures { FacesPrint n f.now out.old to result out.new }
+// Writes the n faces in front of f as a context; how many bytes they take there.
+fn faces(n: usize, f: &[u8], w: &mut Writer) -> usize
+    requires { FacesFront n f.now w.old.to }
+    ensures { FacesWrite n f.now w.old result w.new }
 {
     if n == 0 {
-        return Place {
-            at: 0,
-            to: writing::put(b"fnil", out, to),
-        };
+        w.put(b"fnil");
+        return 0;
     }
-    let a = writing::put(b"(fc ", out, to);
-    let p = writing::formula(Sort::Faces, f, out, a);
-    let b = writing::put_byte(b' ', out, p.to);
-    let m = p.at;
-    let q = faces(n - 1, &f[m..], out, b);
-    Place {
-        at: m + q.at,
-        to: writing::put_byte(b')', out, q.to),
-    }
+    w.put(b"(fc ");
+    let m = w.formula(Sort::Faces, f);
+    w.put_byte(b' ');
+    let k = faces(n - 1, &f[m..], w);
+    w.put_byte(b')');
+    m + k
 }
 
-// Writes the context in front of f.
-fn context(f: &[u8], out: &mut [u8], to: usize) -> Place
-    requires { ContextFronts f.now to }
-    ensures { ContextPrints f.now out.old to result out.new }
+// Writes the context in front of f; how many bytes it takes there.
+fn context(f: &[u8], w: &mut Writer) -> usize
+    requires { ContextFronts f.now w.old.to }
+    ensures { ContextWrites f.now w.old result w.new }
 {
     let n = records::get2(f, 0);
-    let q = faces(n, &f[2..], out, to);
-    Place {
-        at: 2 + q.at,
-        to: q.to,
-    }
+    2 + faces(n, &f[2..], w)
 }
 
-// Writes the field in front of f.
-fn field(kind: Field, f: &[u8], out: &mut [u8], to: usize) -> Place
-    requires { FieldFronts (field_of kind) f.now to }
-    ensures { FieldPrints (field_of kind) f.now out.old to result out.new }
+// Writes the field in front of f; how many bytes it takes there.
+fn field(kind: Field, f: &[u8], w: &mut Writer) -> usize
+    requires { FieldFronts (field_of kind) f.now w.old.to }
+    ensures { FieldWrites (field_of kind) f.now w.old result w.new }
 {
     match kind {
-        Field::Number => number(f, out, to),
-        Field::Index => number(f, out, to),
-        Field::Context => context(f, out, to),
-        Field::End => writing::formula(Sort::Intervals, f, out, to),
-        Field::Face => writing::formula(Sort::Faces, f, out, to),
-        Field::Interval => writing::formula(Sort::Intervals, f, out, to),
+        Field::Number => number(f, w),
+        Field::Index => number(f, w),
+        Field::Context => context(f, w),
+        Field::End => w.formula(Sort::Intervals, f),
+        Field::Face => w.formula(Sort::Faces, f),
+        Field::Interval => w.formula(Sort::Intervals, f),
     }
 }
 
 // Writes the operands in front of f, one for each field, and the end of their list.
-fn operands(fields: &[Field], f: &[u8], out: &mut [u8], to: usize) -> usize
-    requires { ValuesFront (map field_of fields.now) f.now to }
-    ensures { ValuesPrint (map field_of fields.now) f.now out.old to result out.new }
+fn operands(fields: &[Field], f: &[u8], w: &mut Writer)
+    requires { ValuesFront (map field_of fields.now) f.now w.old.to }
+    ensures { ValuesWrite (map field_of fields.now) f.now w.old w.new }
 {
     let Some((kind, rest)) = fields.split_first() else {
-        return writing::put_byte(b')', out, to);
+        w.put_byte(b')');
+        return;
     };
-    let a = writing::put_byte(b' ', out, to);
-    let p = field(*kind, f, out, a);
-    let m = p.at;
-    operands(rest, &f[m..], out, p.to)
+    w.put_byte(b' ');
+    let m = field(*kind, f, w);
+    operands(rest, &f[m..], w);
 }
 
 // The names of the predicates, in document 01's order.
@@ -110,21 +99,21 @@ fn predicate_names() -> [&'static [u8]; 15]
 }
 
 // Writes the name of a predicate.
-fn put_predicate(predicate: usize, out: &mut [u8], to: usize) -> usize
-    requires { (predicate < 15) × Room to (get_or predicate_names predicate []) }
-    ensures { Wrote (get_or predicate_names predicate []) out.old to result out.new }
+fn put_predicate(predicate: usize, w: &mut Writer)
+    requires { (predicate < 15) × Room w.old.to (get_or predicate_names predicate []) }
+    ensures { Writes (get_or predicate_names predicate []) w.old w.new }
 {
     let names = predicate_names();
-    writing::put(names[predicate], out, to)
+    w.put(names[predicate]);
 }
 
 // Writes the judgement of a step.
-pub(crate) fn judgement(l: &[u8], c: Cursor, out: &mut [u8], to: usize) -> usize
-    requires { Shows l.now c.step c.at (λ s. judgement_text s.judgement) to }
-    ensures { Wrote (judgement_text (step_of l.now c.step).judgement) out.old to result out.new }
+pub(crate) fn judgement(l: &[u8], c: Cursor, w: &mut Writer)
+    requires { Shows l.now c.step c.at (λ s. judgement_text s.judgement) w.old.to }
+    ensures { Writes (judgement_text (step_of l.now c.step).judgement) w.old w.new }
 {
     let predicate = c.predicate(l);
-    let a = writing::put_byte(b'(', out, to);
-    let b = put_predicate(predicate, out, a);
-    operands(kinds::fields_of(predicate), c.operands(l), out, b)
+    w.put_byte(b'(');
+    put_predicate(predicate, w);
+    operands(kinds::fields_of(predicate), c.operands(l), w);
 }

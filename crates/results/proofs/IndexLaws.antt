@@ -1,4 +1,5 @@
 -- forall, shift and substitute: calls with an index and one result.
+use Rattle.std.specs.Prelude.{Result, Err}
 use mathlib.Core.Path.{◌≡◌, refl, ap, ap₂, ◌∙◌}
 use mathlib.Core.Bool.{Bool, true, false, ◌&&◌}
 use mathlib.Core.Option.{none, some}
@@ -9,6 +10,7 @@ use lib.Dec.{ltb, leb}
 use lib.ListN.{length}
 use borrow.Author.Tests.{ltb-true, ltb-false, le-leb, lt-leb}
 use Rattle.formula.specs.declared.Sort.{Sort}
+use Rattle.formula.specs.declared.Size.{Size}
 use Rattle.formula.specs.declared.Sort.TheVariants.{Faces, Intervals}
 use Rattle.operations.specs.declared.Op.{Op as Asked}
 use Rattle.operations.specs.declared.Op.TheVariants.{DShift, DSubst}
@@ -18,7 +20,6 @@ use Rattle.formula.specs.Operations.{shift, subst, transform}
 use Rattle.formula.specs.Bytes.{Tree, read_all, nodes, bound, max_nodes, max_bound}
 use Rattle.refusals.specs.Refusals.{of_one, of_two}
 use Rattle.operations.specs.Results.{limited, foralled, transformed, Answered}
-use Rattle.formula.specs.declared.Sized.{Sized}
 use Rattle.calculus.specs.Parse.{read_ledger}
 use Rattle.calculus.specs.Record.{index, formula, few_nodes, low_bound}
 use Rattle.calculus.specs.Calls.{foralls, emit_forall}
@@ -32,8 +33,6 @@ use Rattle.steps.proofs.TreeLaws.{read_known}
 use Rattle.transforms.specs.Transforms.{op_of, KnownOp}
 use Rattle.transforms.proofs.ImageLaws.{operand_known}
 use Rattle.refusals.specs.declared.Refusal.{Refusal}
-use Rattle.replies.specs.declared.Made.TheVariants.{Refused}
-use Rattle.replies.specs.declared.Gate.TheVariants.{Shut}
 use Rattle.replies.specs.Replying.{said_one, Replies}
 use Rattle.results.specs.Calls.{transform_call}
 use Rattle.replies.specs.Asking.{ledger_gate, operand_gate, operands_gate}
@@ -75,13 +74,13 @@ module _ (f : List ℕ) (k : ℕ) (out : List ℕ) where
   forall-one : OneOperand (Door.forall f k out) Faces f (ltb k 255)
   forall-one = record { task = forall_task k; reads = forall-reads; ill = forall-ill; few = λ t. few-indexed Faces t k; lows = λ t. low-indexed Faces t k }
 
-  pub forall-refused : (l : List ℕ) (e : Refusal) → ledger_gate (read_ledger l) (operand_gate Faces (read_all Faces f) (ltb k 255)) ≡ Shut e → Replies (Door.forall f k out) l (said_one (Refused e)) l (out ∷ [])
+  pub forall-refused : (l : List ℕ) (e : Refusal) → ledger_gate (read_ledger l) (operand_gate Faces (read_all Faces f) (ltb k 255)) ≡ Err e → Replies (Door.forall f k out) l (said_one (Err e)) l (out ∷ [])
   forall-refused l e g = record { equal = one-shut forall-one l g }
 
   pub forall-result : {l : List ℕ} → Led l → Known Faces f → k < 255 → OneResult (Door.forall f k out) (forall_task k (tree_of Faces f)) Faces (Operations.forall k (tree_of Faces f)) out l
   forall-result d h i = record { results = refl; outputs = refl; reads = forall-reads (tree_of Faces f) (read_known h); keep = ((h.few, h.low), ((omega arith, i), tt)); led = d }
 
-  pub forall-computed : {d d' : List ℕ} {r : Sized} → Known Faces f → 1022 ≤ length d → Answered Faces (foralled k f) d r d' → Computed Faces (Operations.forall k (tree_of Faces f)) d' r
+  pub forall-computed : {d d' : List ℕ} {r : Result Size Refusal} → Known Faces f → 1022 ≤ length d → Answered Faces (foralled k f) d r d' → Computed Faces (Operations.forall k (tree_of Faces f)) d' r
   unfolding foralled
   forall-computed h w a = computed Faces (Operations.forall k (tree_of Faces f)) (ap (of_one (λ t. limited Faces (Operations.forall k t))) (operand_known h)) w a
 
@@ -116,14 +115,14 @@ module _ (s : Sort) (t r out : List ℕ) where
   change-kept (DShift k) h p = ap (of_one (λ x. limited s (transform s (shift k) x))) (operand_known h)
   change-kept (DSubst k) h p = ap₂ (of_two (λ x q. limited s (transform s (subst k q) x))) (operand_known h) (operand_known p.1)
 
-  pub change-computed : {d d' : List ℕ} {x : Sized} (o : Asked) → Known s t → KnownOp o r → 1022 ≤ length d → Answered s (transformed s o t r) d x d' → Computed s (transform s (op_of o r) (tree_of s t)) d' x
+  pub change-computed : {d d' : List ℕ} {x : Result Size Refusal} (o : Asked) → Known s t → KnownOp o r → 1022 ≤ length d → Answered s (transformed s o t r) d x d' → Computed s (transform s (op_of o r) (tree_of s t)) d' x
   change-computed o h p w a = computed s (transform s (op_of o r) (tree_of s t)) (change-kept o h p) w a
 
 module _ (s : Sort) (t : List ℕ) (k : ℕ) where
   shift_one : (out : List ℕ) → OneOperand (Door.shift s t k out) s t (ltb k 255)
   shift_one out = record { task = transform_task s (item index k ∷ []) (shift k); reads = λ x e. rw e refl; ill = λ e. rw e refl; few = λ x. few-indexed s x k; lows = λ x. low-indexed s x k }
 
-  pub shift-refused : (out l : List ℕ) (e : Refusal) → ledger_gate (read_ledger l) (operand_gate s (read_all s t) (ltb k 255)) ≡ Shut e → Replies (Door.shift s t k out) l (said_one (Refused e)) l (out ∷ [])
+  pub shift-refused : (out l : List ℕ) (e : Refusal) → ledger_gate (read_ledger l) (operand_gate s (read_all s t) (ltb k 255)) ≡ Err e → Replies (Door.shift s t k out) l (said_one (Err e)) l (out ∷ [])
   shift-refused out l e g = record { equal = one-shut (shift_one out) l g }
 
   three : (a b c : Bool) → (a && (b && (c && true))) ≡ (b && (a && c))
@@ -143,6 +142,6 @@ module _ (s : Sort) (t : List ℕ) (k : ℕ) where
     lows = λ x q. three (leb (bound s x) max_bound) (leb (suc k) 255) (leb (bound Intervals q) max_bound) ∙ ap (λ (b : Bool). b && (leb (bound s x) max_bound && leb (bound Intervals q) max_bound)) (low-index k);
   }
 
-  pub substitute-refused : (r out l : List ℕ) (e : Refusal) → ledger_gate (read_ledger l) (operands_gate s (read_all s t) Intervals (read_all Intervals r) (ltb k 255)) ≡ Shut e
-      → Replies (Door.substitute s t k r out) l (said_one (Refused e)) l (out ∷ [])
+  pub substitute-refused : (r out l : List ℕ) (e : Refusal) → ledger_gate (read_ledger l) (operands_gate s (read_all s t) Intervals (read_all Intervals r) (ltb k 255)) ≡ Err e
+      → Replies (Door.substitute s t k r out) l (said_one (Err e)) l (out ∷ [])
   substitute-refused r out l e g = record { equal = two-shut (substitute-two r out) l g }

@@ -1,4 +1,5 @@
 -- Results: as they are computed, and the replies of the calls that have one or two.
+use Rattle.std.specs.Prelude.{Result, Ok, Err}
 use mathlib.Core.Path.{◌≡◌, refl, sym, ap, ap₂, ◌∙◌, subst}
 use mathlib.Core.Bool.{Bool, true, false, ◌&&◌, and-true}
 use mathlib.Core.Option.{some}
@@ -11,39 +12,32 @@ use lib.Seq.{length-take-le}
 use borrow.Author.Tests.{le-leb, lt-leb}
 use Rattle.formula.specs.declared.Sort.{Sort}
 use Rattle.formula.specs.declared.Size.{Size}
-use Rattle.formula.specs.declared.Sized.{Sized}
-use Rattle.formula.specs.declared.Sized.TheVariants.{Fits, Refused}
 use Rattle.formula.specs.Bytes.{Tree, encode, nodes, bound, max_nodes, max_bound}
-use Rattle.formula.specs.Answers.{size_of, keeps, said_sized}
+use Rattle.formula.specs.Answers.{size_of, keeps}
 use Rattle.operations.specs.Results.{limited, roomed, Answered}
 use Rattle.formula.proofs.Operands.{keeps-limits}
 use Rattle.calculus.specs.Record.{formula, size, few_nodes, low_bound}
 use Rattle.calculus.specs.Door.{Call, Item, item, Task, task_of, outputs_of, answered, every, long_enough}
 use Rattle.calculus.proofs.Doors.{ItemsKeep}
 use Rattle.ledger.specs.Ledger.{steps_of, Led}
-use Rattle.steps.specs.declared.Ran.{Ran}
-use Rattle.steps.specs.Running.{RunsOn}
+use Rattle.steps.specs.Running.{Ran, RunsOn}
 use Rattle.steps.specs.Trees.{Is}
 use Rattle.steps.proofs.TreeLaws.{is-short}
 use Rattle.transforms.proofs.ImageLaws.{limited-is, roomed-kept, in-front}
 use Rattle.refusals.specs.declared.Refusal.{Refusal}
 use Rattle.refusals.specs.declared.Refusal.TheVariants.{LargeResult, ShortOutput}
-use Rattle.refusals.specs.Refusals.{Result, refused, done}
-use Rattle.replies.specs.declared.Called.{Called}
-use Rattle.replies.specs.declared.Called.TheVariants.{Step, Refused}
 use Rattle.replies.specs.declared.Made.{Made}
-use Rattle.replies.specs.declared.Made.TheVariants.{Refused as refused_made}
 use Rattle.replies.specs.Replying.{measure_of, said_one, Replies}
 use Rattle.replies.specs.Ending.{Ending, made_by, out_by}
 use Rattle.results.specs.Calls.{ResultOf}
 use Rattle.replies.proofs.ReplyLaws.{finished, too_large, too_short, replied}
 
 -- What was computed: the result, or that it is over the limits.
-pub data Computed (s : Sort) (t : Tree s) (d : List ℕ) (r : Sized) : Type 0 where
-  fits : said_sized r ≡ done (size_of s t) → Is s t (encode s t) → length (encode s t) ≤ length d → take (length (encode s t)) d ≡ encode s t → Computed s t d r
-  too-big : said_sized r ≡ refused LargeResult → keeps (size_of s t) ≡ false → Computed s t d r
+pub data Computed (s : Sort) (t : Tree s) (d : List ℕ) (r : Result Size Refusal) : Type 0 where
+  fits : r ≡ Ok (size_of s t) → Is s t (encode s t) → length (encode s t) ≤ length d → take (length (encode s t)) d ≡ encode s t → Computed s t d r
+  too-big : r ≡ Err LargeResult → keeps (size_of s t) ≡ false → Computed s t d r
 
-pub computed : (s : Sort) (t : Tree s) {x : Result (Tree s)} {d d' : List ℕ} {r : Sized} → x ≡ limited s t → 1022 ≤ length d → Answered s x d r d' → Computed s t d' r
+pub computed : (s : Sort) (t : Tree s) {x : Result (Tree s) Refusal} {d d' : List ℕ} {r : Result Size Refusal} → x ≡ limited s t → 1022 ≤ length d → Answered s x d r d' → Computed s t d' r
 computed s t {x} {d} {d'} {r} e w a = go (keeps (size_of s t)) refl
   where
     go : (b : Bool) → keeps (size_of s t) ≡ b → Computed s t d' r
@@ -55,28 +49,22 @@ computed s t {x} {d} {d'} {r} e w a = go (keeps (size_of s t)) refl
         let f = in-front s y u d refl a.leaves in
         fits (a.says ∙ roomed-kept s y u) i f.inside f.bytes
     go false k =
-        let o : limited s t ≡ refused LargeResult = rw k refl in
+        let o : limited s t ≡ Err LargeResult = rw k refl in
         too-big (a.says ∙ ap (λ y. roomed s y (length d)) (e ∙ o)) k
 
 -- By the answer.
-module _ {s : Sort} {t : Tree s} {d : List ℕ} {r : Sized} (c : Computed s t d r) where
-  pub result-done : (z : Size) → r ≡ Fits z → ResultOf s t (take z.len d) z × (z.len ≤ length d) × (length (take z.len d) ≡ z.len)
-  result-done z e = go c
-    where
-      go : Computed s t d r → ResultOf s t (take z.len d) z × (z.len ≤ length d) × (length (take z.len d) ≡ z.len)
-      go (fits p i u b) =
-          let k : z ≡ size_of s t = (let q : done z ≡ done (size_of s t) = sym (ap said_sized e) ∙ p in cc) in
-          let n : z.len ≡ length (encode s t) = ap (λ (y : Size). y.len) k in
-          (record { is = record { bytes = ap (λ (m : ℕ). take m d) n ∙ b; few = i.few; low = i.low }; size = k }, omega (arith, n, u), length-take-le z.len d (omega (arith, n, u)))
-      go (too-big p k) = absurd (let q : done z ≡ refused LargeResult = sym (ap said_sized e) ∙ p in let w : ◌≡◌ {A = ℕ} 0 1 = cc in omega arith)
+module _ {s : Sort} {t : Tree s} {d : List ℕ} where
+  pub result-done : {z : Size} → Computed s t d (Ok z) → ResultOf s t (take z.len d) z × (z.len ≤ length d) × (length (take z.len d) ≡ z.len)
+  result-done {z} (fits p i u b) =
+      let k : z ≡ size_of s t = cc in
+      let n : z.len ≡ length (encode s t) = ap (λ (y : Size). y.len) k in
+      (record { is = record { bytes = ap (λ (m : ℕ). take m d) n ∙ b; few = i.few; low = i.low }; size = k }, omega (arith, n, u), length-take-le z.len d (omega (arith, n, u)))
+  result-done {z} (too-big p k) = absurd (let w : ◌≡◌ {A = ℕ} 0 1 = cc in omega arith)
 
   -- It is refused by 5 alone.
-  pub result-large : {q : Refusal} → r ≡ Refused q → (q ≡ LargeResult) × (keeps (size_of s t) ≡ false)
-  result-large {q} e = go c
-    where
-      go : Computed s t d r → (q ≡ LargeResult) × (keeps (size_of s t) ≡ false)
-      go (fits p i u b) = absurd (let x : refused q ≡ done (size_of s t) = sym (ap said_sized e) ∙ p in let w : ◌≡◌ {A = ℕ} 0 1 = cc in omega arith)
-      go (too-big p k) = ((let x : ◌≡◌ {A = Result Size} (refused q) (refused LargeResult) = sym (ap said_sized e) ∙ p in cc), k)
+  pub result-large : {q : Refusal} → Computed s t d (Err q) → (q ≡ LargeResult) × (keeps (size_of s t) ≡ false)
+  result-large {q} (fits p i u b) = absurd (let w : ◌≡◌ {A = ℕ} 0 1 = cc in omega arith)
+  result-large {q} (too-big p k) = (cc, k)
 
 -- Questions 5 and 6 of one result ----------------------------------------------------------------------
 
@@ -92,13 +80,13 @@ pub record OneResult (c : Call) (k : Task) (s : Sort) (t : Tree s) (out l : List
   pub led : Led l
 
 module _ {c : Call} {k : Task} {s : Sort} {t : Tree s} {out l : List ℕ} (w : OneResult c k s t out l) where
-  large : keeps (size_of s t) ≡ false → Replies c l (said_one (refused_made LargeResult)) l (out ∷ [])
+  large : keeps (size_of s t) ≡ false → Replies c l (said_one (Err LargeResult)) l (out ∷ [])
   large b =
       let x : (every few_nodes k.results && every low_bound k.results) ≡ false =
       ap (λ (rs : List Item). every few_nodes rs && every low_bound rs) w.results ∙ both-kept (leb (nodes s t) max_nodes) (leb (bound s t) max_bound) ∙ b in
-      subst (Replies c l (said_one (refused_made LargeResult)) l) w.outputs (record { equal = too_large c k l w.led w.reads w.keep x })
+      subst (Replies c l (said_one (Err LargeResult)) l) w.outputs (record { equal = too_large c k l w.led w.reads w.keep x })
 
-  pub one-large : {q : Refusal} → (q ≡ LargeResult) × (keeps (size_of s t) ≡ false) → Replies c l (said_one (refused_made q)) l (out ∷ [])
+  pub one-large : {q : Refusal} → (q ≡ LargeResult) × (keeps (size_of s t) ≡ false) → Replies c l (said_one (Err q)) l (out ∷ [])
   one-large (i, b) =
       rw i (large b)
 
@@ -109,22 +97,22 @@ module _ {c : Call} {k : Task} {s : Sort} {t : Tree s} {out l : List ℕ} (w : O
     room : (b : Bool) → leb (length (encode s t)) (length out) ≡ b → long_enough k.results (outputs_of c) ≡ b
     room b e = ap₂ long_enough w.results w.outputs ∙ and-true (leb (length (encode s t)) (length out)) ∙ e
 
-    pub one-short : length out < z.len → Replies c l (said_one (refused_made ShortOutput)) l (out ∷ [])
+    pub one-short : length out < z.len → Replies c l (said_one (Err ShortOutput)) l (out ∷ [])
     one-short n =
         let e = lt-leb (length (encode s t)) (length out) (omega (arith, n, ap (λ (y : Size). y.len) h.size)) in
-        subst (Replies c l (said_one (refused_made ShortOutput)) l) w.outputs (record { equal = too_short c k l w.led w.reads w.keep keep (room false e) })
+        subst (Replies c l (said_one (Err ShortOutput)) l) w.outputs (record { equal = too_short c k l w.led w.reads w.keep keep (room false e) })
 
-    made_as : (a : Called) (l₂ : List ℕ) → finished (out ∷ []) (item (formula s) t ∷ []) a l₂ ≡ record { answer = said_one (made_by a z); ledger = l₂; outputs = out_by a x out ∷ [] }
-    made_as (Step n) l₂ =
+    made_as : (a : Result ℕ Refusal) (l₂ : List ℕ) → finished (out ∷ []) (item (formula s) t ∷ []) a l₂ ≡ record { answer = said_one (made_by a z); ledger = l₂; outputs = out_by a x out ∷ [] }
+    made_as (Ok n) l₂ =
         ap₂ (λ (y : Size) (v : List ℕ). record { answer = answered n (measure_of y ∷ []); ledger = l₂; outputs = (v ++ drop (length v) out) ∷ [] }) (sym h.size) (sym h.is.bytes)
-    made_as (Refused e) l₂ = refl
+    made_as (Err e) l₂ = refl
 
-    pub one-made : {l₁ l₂ out' : List ℕ} {r : Ran} {end : ℕ} {a : Called} {m : Made} → length x ≤ length out → RunsOn l k.program r l₁ → end ≡ size (steps_of l) → Ending l₁ end r a l₂
+    pub one-made : {l₁ l₂ out' : List ℕ} {r : Ran} {end : ℕ} {a : Result ℕ Refusal} {m : Result Made Refusal} → length x ≤ length out → RunsOn l k.program r l₁ → end ≡ size (steps_of l) → Ending l₁ end r a l₂
         → out' ≡ out_by a x out → m ≡ made_by a z → Replies c l (said_one m) l₂ (out' ∷ [])
     one-made {l₂ = l₂} {a = a} n run e i o p =
         let b = le-leb (length (encode s t)) (length out) (omega (arith, n, ap length h.is.bytes)) in
         record {
           equal =
               replied c k l w.led w.reads w.keep keep (room true b) run e i ∙ ap₂ (λ (outs : List (List ℕ)) (rs : List Item). finished outs rs a l₂) w.outputs w.results ∙ made_as a l₂
-              ∙ ap₂ (λ (y : Made) (v : List ℕ). record { answer = said_one y; ledger = l₂; outputs = v ∷ [] }) (sym p) (sym o);
+              ∙ ap₂ (λ (y : Result Made Refusal) (v : List ℕ). record { answer = said_one y; ledger = l₂; outputs = v ∷ [] }) (sym p) (sym o);
         }

@@ -8,7 +8,7 @@ ghost use Rattle.transforms.specs.Transforms.{op_of, KnownOp};
 ghost use Rattle.replies.specs.Replying.{said_one, Replies};
 ghost use Rattle.results.specs.Calls.{transform_call, ResultOf};
 
-use formula::{Size, Sized, Sort};
+use formula::{Size, Sort};
 use operations::Op;
 use programs::Program;
 use refusals::Refusal;
@@ -24,7 +24,7 @@ fn run(
     res: &[u8],
     z: Size,
     out: &mut [u8],
-) -> Made
+) -> Result<Made, Refusal>
     requires { Led l.old × Known sort t.now × KnownOp op r.now × ResultOf sort (transform_of sort (op_of op r.now) (tree_of sort t.now)) res.now z × (length res.now ≤ length out.old) }
     ensures { Replies (transform_call sort op t.now r.now out.old) l.old (said_one result) l.new (out.new ∷ []) }
 {
@@ -36,20 +36,23 @@ fn run(
 }
 
 // The call once questions 1 to 4 are answered. A shift does not read r.
-pub fn transform(l: &mut [u8], sort: Sort, op: Op, t: &[u8], r: &[u8], out: &mut [u8]) -> Made
+pub fn transform(
+    l: &mut [u8],
+    sort: Sort,
+    op: Op,
+    t: &[u8],
+    r: &[u8],
+    out: &mut [u8],
+) -> Result<Made, Refusal>
     requires { Led l.old × Known sort t.now × KnownOp op r.now }
     ensures { Replies (transform_call sort op t.now r.now out.old) l.old (said_one result) l.new (out.new ∷ []) }
 {
     let mut result = [0u8; 1024];
-    match operations::transform(sort, op, t, r, &mut result) {
-        Sized::Fits(z) => {
-            let n = z.len;
-            let short = out.len() < n;
-            if short {
-                return Made::Refused(Refusal::ShortOutput);
-            }
-            run(l, sort, op, t, r, &result[..n], z, out)
-        }
-        Sized::Refused(e) => Made::Refused(e),
+    let z = operations::transform(sort, op, t, r, &mut result)?;
+    let n = z.len;
+    let short = out.len() < n;
+    if short {
+        return Err(Refusal::ShortOutput);
     }
+    run(l, sort, op, t, r, &result[..n], z, out)
 }

@@ -1,4 +1,5 @@
 -- face and interval.
+use Rattle.std.specs.Prelude.{Result, Err}
 use mathlib.Core.Path.{◌≡◌, refl, ap, ◌∙◌, subst}
 use mathlib.Core.Bool.{Bool, ◌&&◌, and-true}
 use mathlib.Core.Option.{none, some}
@@ -13,16 +14,12 @@ use Rattle.calculus.specs.Parse.{read_ledger}
 use Rattle.calculus.specs.Record.{number, formula, size}
 use Rattle.calculus.specs.Door.{item, Task, task_of, outputs_of}
 use Rattle.ledger.specs.Ledger.{steps_of, Led}
-use Rattle.steps.specs.declared.Ran.{Ran}
-use Rattle.steps.specs.Running.{RunsOn}
+use Rattle.steps.specs.Running.{Ran, RunsOn}
 use Rattle.formula.specs.Answers.{tree_of}
 use Rattle.steps.specs.Trees.{Known}
 use Rattle.steps.proofs.TreeLaws.{read_known}
 use Rattle.bounded_steps.specs.Programs.{bounded, emit_bounded}
 use Rattle.refusals.specs.declared.Refusal.{Refusal}
-use Rattle.replies.specs.declared.Called.{Called}
-use Rattle.replies.specs.declared.Called.TheVariants.{Refused}
-use Rattle.replies.specs.declared.Gate.TheVariants.{Shut}
 use Rattle.replies.specs.Replying.{said, Replies}
 use Rattle.runs.specs.Calls.{bounded_call}
 use Rattle.replies.specs.Asking.{ledger_gate, operand_gate}
@@ -57,10 +54,10 @@ bounded-one s d f = record {
   lows = λ t. ap (λ (b : Bool). leb d 255 && b) (and-true (leb (bound s t) max_bound));
 }
 
-pub bounded-refused : (s : Sort) (d : ℕ) (f l : List ℕ) (e : Refusal) → ledger_gate (read_ledger l) (operand_gate s (read_all s f) (leb d 255)) ≡ Shut e → Replies (bounded_call s d f) l (said (Refused e)) l []
-bounded-refused s d f l e g = subst (Replies (bounded_call s d f) l (said (Refused e)) l) (no-outputs s d f) (refuses (bounded_call s d f) l e (one-shut (bounded-one s d f) l g))
+pub bounded-refused : (s : Sort) (d : ℕ) (f l : List ℕ) (e : Refusal) → ledger_gate (read_ledger l) (operand_gate s (read_all s f) (leb d 255)) ≡ Err e → Replies (bounded_call s d f) l (said (Err e)) l []
+bounded-refused s d f l e g = subst (Replies (bounded_call s d f) l (said (Err e)) l) (no-outputs s d f) (refuses (bounded_call s d f) l e (one-shut (bounded-one s d f) l g))
 
-pub bounded-replies : (s : Sort) (d : ℕ) {f l l₁ l₂ : List ℕ} {r : Ran} {end : ℕ} {a : Called} → Led l → Known s f → d ≤ 255 → RunsOn l (emit_bounded s d (tree_of s f)) r l₁ → end ≡ size (steps_of l) → Ending l₁ end r a l₂
+pub bounded-replies : (s : Sort) (d : ℕ) {f l l₁ l₂ : List ℕ} {r : Ran} {end : ℕ} {a : Result ℕ Refusal} → Led l → Known s f → d ≤ 255 → RunsOn l (emit_bounded s d (tree_of s f)) r l₁ → end ≡ size (steps_of l) → Ending l₁ end r a l₂
     → Replies (bounded_call s d f) l (said a) l₂ []
 unfolding bounded_task
 bounded-replies s d {f} {l} {l₂ = l₂} {a = a} h k b run e n =

@@ -1,4 +1,5 @@
 -- entails and endpoint: calls with a number and two formulas.
+use Rattle.std.specs.Prelude.{Result, Err}
 use mathlib.Core.Path.{◌≡◌, refl, ap, ◌∙◌}
 use mathlib.Core.Bool.{Bool, ◌&&◌, and-true}
 use mathlib.Core.List.{List, [], ◌∷◌}
@@ -16,15 +17,11 @@ use Rattle.calculus.specs.Calls.{side, emit_entails, emit_endpoint}
 use Rattle.calculus.specs.Door
 use Rattle.calculus.specs.Door.{item, Task, end_of, every}
 use Rattle.ledger.specs.Ledger.{steps_of, Led}
-use Rattle.steps.specs.declared.Ran.{Ran}
-use Rattle.steps.specs.Running.{RunsOn}
+use Rattle.steps.specs.Running.{Ran, RunsOn}
 use Rattle.formula.specs.Answers.{tree_of}
 use Rattle.steps.specs.Trees.{Known}
 use Rattle.steps.proofs.TreeLaws.{read_known}
 use Rattle.refusals.specs.declared.Refusal.{Refusal}
-use Rattle.replies.specs.declared.Called.{Called}
-use Rattle.replies.specs.declared.Called.TheVariants.{Refused}
-use Rattle.replies.specs.declared.Gate.TheVariants.{Shut}
 use Rattle.replies.specs.Replying.{said, Replies}
 use Rattle.replies.specs.Asking.{ledger_gate, operands_gate}
 use Rattle.replies.specs.Ending.{Ending}
@@ -54,10 +51,10 @@ module _ (d : ℕ) (a b : List ℕ) where
     lows = λ f g. numbered-low d Faces f Faces g;
   }
 
-  pub entails-refused : (l : List ℕ) (e : Refusal) → ledger_gate (read_ledger l) (operands_gate Faces (read_all Faces a) Faces (read_all Faces b) (leb d 255)) ≡ Shut e → Replies (Door.entails d a b) l (said (Refused e)) l []
+  pub entails-refused : (l : List ℕ) (e : Refusal) → ledger_gate (read_ledger l) (operands_gate Faces (read_all Faces a) Faces (read_all Faces b) (leb d 255)) ≡ Err e → Replies (Door.entails d a b) l (said (Err e)) l []
   entails-refused l e g = record { equal = two-shut entails-two l g }
 
-  pub entails-replies : {l l₁ l₂ : List ℕ} {r : Ran} {end : ℕ} {x : Called} → Led l → d ≤ 255 → Known Faces a → Known Faces b → RunsOn l (emit_entails d (tree_of Faces a) (tree_of Faces b)) r l₁ → end ≡ size (steps_of l)
+  pub entails-replies : {l l₁ l₂ : List ℕ} {r : Ran} {end : ℕ} {x : Result ℕ Refusal} → Led l → d ≤ 255 → Known Faces a → Known Faces b → RunsOn l (emit_entails d (tree_of Faces a) (tree_of Faces b)) r l₁ → end ≡ size (steps_of l)
       → Ending l₁ end r x l₂ → Replies (Door.entails d a b) l (said x) l₂ []
   unfolding entails-two
   entails-replies {l} {l₂ = l₂} {x = x} h n p q run e k =
@@ -89,11 +86,11 @@ module _ (d : ℕ) (phi r : List ℕ) (one : Bool) where
     lows = λ f g. numbered-low d Faces f Intervals g;
   }
 
-  pub endpoint-refused : (l : List ℕ) (e : Refusal) → ledger_gate (read_ledger l) (operands_gate Faces (read_all Faces phi) Intervals (read_all Intervals r) (leb d 255)) ≡ Shut e
-      → Replies (Door.endpoint d phi r one) l (said (Refused e)) l []
+  pub endpoint-refused : (l : List ℕ) (e : Refusal) → ledger_gate (read_ledger l) (operands_gate Faces (read_all Faces phi) Intervals (read_all Intervals r) (leb d 255)) ≡ Err e
+      → Replies (Door.endpoint d phi r one) l (said (Err e)) l []
   endpoint-refused l e g = record { equal = two-shut endpoint-two l g }
 
-  pub endpoint-replies : {l l₁ l₂ : List ℕ} {x : Ran} {end : ℕ} {a : Called} → Led l → d ≤ 255 → Known Faces phi → Known Intervals r → RunsOn l (emit_endpoint d (tree_of Faces phi) (tree_of Intervals r) (end_of one)) x l₁
+  pub endpoint-replies : {l l₁ l₂ : List ℕ} {x : Ran} {end : ℕ} {a : Result ℕ Refusal} → Led l → d ≤ 255 → Known Faces phi → Known Intervals r → RunsOn l (emit_endpoint d (tree_of Faces phi) (tree_of Intervals r) (end_of one)) x l₁
       → end ≡ size (steps_of l) → Ending l₁ end x a l₂ → Replies (Door.endpoint d phi r one) l (said a) l₂ []
   unfolding endpoint-two
   endpoint-replies {l} {l₂ = l₂} {a = a} h n p q run e k =

@@ -7,10 +7,10 @@ ghost use Rattle.runs.specs.Calls.{bounded_call};
 
 use formula::Sort;
 use programs::Program;
-use replies::Called;
+use refusals::Refusal;
 
 // The call once questions 1 to 4 are answered.
-pub fn bounded(l: &mut [u8], sort: Sort, d: usize, f: &[u8]) -> Called
+pub fn bounded(l: &mut [u8], sort: Sort, d: usize, f: &[u8]) -> Result<usize, Refusal>
     requires { Led l.old × Known sort f.now × (d ≤ 255) }
     ensures { Replies (bounded_call sort d f.now) l.old (said result) l.new [] }
 {

@@ -6,12 +6,12 @@ ghost use Rattle.steps.specs.Trees.{Known};
 ghost use Rattle.boundary_steps.specs.Programs.{Sides};
 ghost use Rattle.replies.specs.Replying.{said, Replies};
 
-use formula::{Sized, Sort};
+use formula::Sort;
 use programs::Program;
-use replies::Called;
+use refusals::Refusal;
 
 // The call once questions 1 to 4 are answered.
-pub fn entails(l: &mut [u8], d: usize, a: &[u8], b: &[u8]) -> Called
+pub fn entails(l: &mut [u8], d: usize, a: &[u8], b: &[u8]) -> Result<usize, Refusal>
     requires { Led l.old × (d ≤ 255) × Known Sort.Faces a.now × Known Sort.Faces b.now }
     ensures { Replies (entails_call d a.now b.now) l.old (said result) l.new [] }
 {
@@ -29,7 +29,7 @@ fn run_endpoint(
     zero: &[u8],
     one: &[u8],
     hi: bool,
-) -> Called
+) -> Result<usize, Refusal>
     requires { Led l.old × (d ≤ 255) × Known Sort.Faces phi.now × Known Sort.Intervals r.now × Sides r.now zero.now one.now }
     ensures { Replies (endpoint_call d phi.now r.now hi) l.old (said result) l.new [] }
 {
@@ -39,17 +39,13 @@ fn run_endpoint(
 }
 
 // The call once questions 1 to 4 are answered. The faces of an interval within the limits are within them.
-pub fn endpoint(l: &mut [u8], d: usize, phi: &[u8], r: &[u8], hi: bool) -> Called
+pub fn endpoint(l: &mut [u8], d: usize, phi: &[u8], r: &[u8], hi: bool) -> Result<usize, Refusal>
     requires { Led l.old × (d ≤ 255) × Known Sort.Faces phi.now × Known Sort.Intervals r.now }
     ensures { Replies (endpoint_call d phi.now r.now hi) l.old (said result) l.new [] }
 {
     let mut zero = [0u8; 1024];
     let mut one = [0u8; 1024];
-    match operations::boundary(r, &mut zero, &mut one) {
-        Sized::Fits(z) => {
-            let n = z.len;
-            run_endpoint(l, d, phi, r, &zero[..n], &one[..n], hi)
-        }
-        Sized::Refused(e) => Called::Refused(e),
-    }
+    let z = operations::boundary(r, &mut zero, &mut one)?;
+    let n = z.len;
+    run_endpoint(l, d, phi, r, &zero[..n], &one[..n], hi)
 }

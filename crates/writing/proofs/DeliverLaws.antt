@@ -35,21 +35,25 @@ pub short-delivers : {x z z' out out' : List ℕ} {n : ℕ} → Wrote x z 0 n z'
 short-delivers {x} {out = out} w h e =
     record { equal = by-room x out false (lt-leb (length x) (length out) (omega (arith, w.end))) ∙ ap (λ (o : List ℕ). record { answer = Err ShortOutput; output = o }) (sym e) }
 
-pub wrote-delivers : {x z z' out out' : List ℕ} {n m : ℕ} → Wrote x z 0 n z' → n ≤ length out → Wrote x out 0 m out' → Delivers x out (Ok m) out'
-wrote-delivers {x} {out = out} {out'} {m = m} w h v =
+-- What a writer wrote to the output, whose bytes are told by another name.
+pub writes-deliver : {x z z' out out' o : List ℕ} {n m : ℕ} → Wrote x z 0 n z' → n ≤ length out → Wrote x out 0 m out' → o ≡ out' → Delivers x out (Ok m) o
+writes-deliver {x} {out = out} {o = o} {m = m} w h v e =
     record {
       equal =
           by-room x out true (le-leb (length x) (length out) (omega (arith, w.end)))
           ∙ ap (λ (n : ℕ). record { answer = Ok n; output = sets out 0 x }) (sym (v.end ∙ zero-add (length x)))
-          ∙ ap (λ (o : List ℕ). record { answer = Ok m; output = o }) (sym v.bytes);
+          ∙ ap (λ (o : List ℕ). record { answer = Ok m; output = o }) (sym (e ∙ v.bytes));
     }
+
+pub wrote-delivers : {x z z' out out' : List ℕ} {n m : ℕ} → Wrote x z 0 n z' → n ≤ length out → Wrote x out 0 m out' → Delivers x out (Ok m) out'
+wrote-delivers w h v = writes-deliver w h v refl
 
 -- The formula in front of the bytes.
 pub sized-short : {s : Sort} {l z z' out : List ℕ} {p : Place} → FormulaPrints s l z 0 p z' → length out < p.to → Delivered s l out (Err ShortOutput) out
 sized-short g h = record { it = λ t m r. short-delivers (g.it t m r).wrote h refl }
 
 pub sized-wrote : {s : Sort} {l z z' out out' o : List ℕ} {p q : Place} → FormulaPrints s l z 0 p z' → p.to ≤ length out → FormulaPrints s l out 0 q out' → o ≡ out' → Delivered s l out (Ok q.to) o
-sized-wrote g h k e = record { it = λ t m r. let w = (k.it t m r).wrote in wrote-delivers (g.it t m r).wrote h (record { end = w.end; bytes = e ∙ w.bytes }) }
+sized-wrote g h k e = record { it = λ t m r. writes-deliver (g.it t m r).wrote h (k.it t m r).wrote e }
 
 -- Nothing but a formula within the limits is written.
 pub writes-refused : (s : Sort) (f out : List ℕ) {q : Refusal} → Err q ≡ map (size_of s) (operand s f) → WritesInto s f out (Err q) out

@@ -84,7 +84,8 @@ fn sized(sort: Sort, f: &[u8], out: &mut [u8]) -> Result<usize, Refusal>
         to: 0,
     };
     measure.formula(sort, f);
-    if out.len() < measure.to {
+    let short = out.len() < measure.to;
+    if short {
         return Err(Refusal::ShortOutput);
     }
     let mut w = Writer { out, to: 0 };

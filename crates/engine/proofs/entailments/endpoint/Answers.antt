@@ -1,5 +1,6 @@
+use Rattle.std.proofs.lemmas.Result.{err_from_is_err_and}
 use borrow.Author.Rules.{rules}
-use mathlib.Core.Path.{sym, ◌∙◌}
+use mathlib.Core.Path.{sym}
 use borrow.Author.Tests.{leb-true}
 use Rattle.formula.specs.declared.Sort.TheVariants.{Faces, Intervals}
 use Rattle.calculus.proofs.Fields.{below_each}
@@ -8,7 +9,9 @@ use Rattle.runs.proofs.ImplicationLaws.{endpoint-refused}
 use Rattle.engine.proofs.entailments.endpoint.Goals as goal
 
 pub endpoint-requires : goal.endpoint-requires
-endpoint-requires c = let p = c.args in let x = two-open Faces p.phi.now Intervals p.r.now p.l.now _ (below_each 256 p.l.now (λ i h. search rules)) (sym c.two.ensures ∙ c.in-Open.is) in (x.0, leb-true p.d 255 x.3, x.1, x.2)
+endpoint-requires c = let p = c.args in let x = two-open Faces p.phi.now Intervals p.r.now p.l.now _ (below_each 256 p.l.now (λ i h. search rules)) (sym c.in_ok-two.ensures) in (x.0, leb-true p.d 255 x.3, x.1, x.2)
 
-pub returns-in-Shut : goal.returns-in-Shut
-returns-in-Shut c = let p = c.args in endpoint-refused p.d p.phi.now p.r.now p.one p.l.now _ (sym c.two.ensures ∙ c.in-Shut.is)
+pub returns-in_err-two : goal.returns-in_err-two
+returns-in_err-two c = let p = c.args in
+    let r = err_from_is_err_and c.from_residual.result c.from_residual.ensures.1 in
+    rw (r.1, r.2) (endpoint-refused p.d p.phi.now p.r.now p.one p.l.now _ (sym c.in_err-two.ensures))

@@ -12,11 +12,11 @@ slice_bounds-faces-count c = omega (arith, context-long c.args.f.now c.requires)
 pub slice_bounds-faces-start : goal.slice_bounds-faces-start
 slice_bounds-faces-start c = omega (arith, context-long c.args.f.now c.requires)
 
-pub faces-q-requires : goal.faces-q-requires
-faces-q-requires c = fronts-part 2 c.args.f.now (context-asks c.args.f.now c.get2-n.ensures.0 c.requires)
+pub faces-requires : goal.faces-requires
+faces-requires c = fronts-part 2 c.args.f.now (context-asks c.args.f.now c.get2-n.ensures.0 c.requires)
 
 pub overflow_add-result : goal.overflow_add-result
-overflow_add-result c = omega (arith, context-within c.args.f.now c.get2-n.ensures.0 (prints-part 2 c.args.f.now c.faces-q.ensures) c.requires)
+overflow_add-result c = omega (arith, context-within c.args.f.now c.get2-n.ensures.0 (prints-part 2 c.args.f.now c.faces.ensures.prints) c.requires)
 
 pub returns : goal.returns
-returns c = context-prints c.args.f.now c.get2-n.ensures.0 (prints-part 2 c.args.f.now c.faces-q.ensures)
+returns c = record { prints = context-prints c.args.f.now c.get2-n.ensures.0 (prints-part 2 c.args.f.now c.faces.ensures.prints); same = c.faces.ensures.same }

@@ -1,4 +1,4 @@
-use Rattle.listing.proofs.ValueLaws.{field-fronts, field-prints}
+use Rattle.listing.proofs.ValueLaws.{field-fronts, field-writes}
 use Rattle.listing.proofs.judgements.field.Goals as goal
 
 pub number-requires : goal.number-requires
@@ -20,19 +20,19 @@ pub formula-requires-in-Interval : goal.formula-requires-in-Interval
 formula-requires-in-Interval c = field-fronts c.in-Interval.is c.requires
 
 pub returns-in-Number : goal.returns-in-Number
-returns-in-Number c = field-prints c.in-Number.is c.number.ensures
+returns-in-Number c = field-writes c.in-Number.is c.number.ensures
 
 pub returns-in-Index : goal.returns-in-Index
-returns-in-Index c = field-prints c.in-Index.is c.number-in-Index.ensures
+returns-in-Index c = field-writes c.in-Index.is c.number-in-Index.ensures
 
 pub returns-in-Context : goal.returns-in-Context
-returns-in-Context c = field-prints c.in-Context.is c.context.ensures
+returns-in-Context c = field-writes c.in-Context.is c.context.ensures
 
 pub returns-in-End : goal.returns-in-End
-returns-in-End c = field-prints c.in-End.is c.formula.ensures
+returns-in-End c = field-writes c.in-End.is c.formula.ensures
 
 pub returns-in-Face : goal.returns-in-Face
-returns-in-Face c = field-prints c.in-Face.is c.formula-in-Face.ensures
+returns-in-Face c = field-writes c.in-Face.is c.formula-in-Face.ensures
 
 pub returns-in-Interval : goal.returns-in-Interval
-returns-in-Interval c = field-prints c.in-Interval.is c.formula-in-Interval.ensures
+returns-in-Interval c = field-writes c.in-Interval.is c.formula-in-Interval.ensures

@@ -1,4 +1,4 @@
-use Rattle.std.proofs.Common.{sym, ap, ◌∙◌, [], ◌∷◌}
+use Rattle.std.proofs.Common.{sym, ap, [], ◌∷◌}
 use Rattle.writing.specs.Texts.{unary_text}
 use Rattle.writing.proofs.WriteLaws.{room-first, room_next, room_as, writes-next, writes-as}
 use Rattle.writing.proofs.FormulaLaws.{seen, lit-room, lit-prints, fronts-long}
