@@ -221,12 +221,9 @@ pages-all l i k h =
     let e : i + (k - i) ≡ k = omega arith in
     lines_cut i (drop i L) (k - i) ∙ ap (λ (M : List Step). lines_to l i k ++ lines_from (i + (k - i)) M) (drop-drop (k - i) i L) ∙ ap (λ (n : ℕ). lines_to l i k ++ lines_from n (drop n L)) e
 
--- The first page, and a place before a step.
+-- The first page.
 pub among-start : {l : List ℕ} → Led l → Among l 0 4
 among-start h = let w = walks-start h in record { led = w.led; inside = w.among; place = w.place }
-
-pub among-inside : {l : List ℕ} {step at end : ℕ} → Among l step at → end ≡ size (steps_of l) → at < end → step < length (steps_of l)
-among-inside a e b = (walks-points (walks-among a) (omega (arith, e))).inside
 
 -- The last line fits into the room for a page.
 pub verdict-fits : {input l out out' : List ℕ} {a : Result ℕ Refusal} {r : ℕ} → Asks input a l → Wrote (verdict_text (said a)) out 0 r out' → 1048600 ≤ length out → r ≤ length out'
