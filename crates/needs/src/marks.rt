@@ -26,23 +26,23 @@ fn any_literal<F: Fn(usize, u8) -> bool>(f: &[u8], at: usize, test: &F) -> Seen
 {
     let kind = f[at];
     let next = at + 1;
-    if kind < 2 {
-        return Seen {
+    match kind {
+        0..=1 => Seen {
             found: false,
             at: next,
-        };
-    }
-    if kind < 4 {
-        return Seen {
+        },
+        2..=3 => Seen {
             found: test(formula::dim_at(f, next), kind - 2),
             at: next + formula::DIM,
-        };
-    }
-    let left = any_literal(f, next, test);
-    let right = any_literal(f, left.at, test);
-    Seen {
-        found: left.found || right.found,
-        at: right.at,
+        },
+        _ => {
+            let left = any_literal(f, next, test);
+            let right = any_literal(f, left.at, test);
+            Seen {
+                found: left.found || right.found,
+                at: right.at,
+            }
+        }
     }
 }
 
@@ -70,16 +70,16 @@ pub fn mark(f: &[u8], at: usize, marks: &mut [u8]) -> usize
 {
     let kind = f[at];
     let next = at + 1;
-    if kind < 2 {
-        return next;
+    match kind {
+        0..=1 => next,
+        2..=3 => next + formula::DIM,
+        _ => {
+            let middle = mark(f, next, marks);
+            let end = mark(f, middle, marks);
+            if !share(f, next, middle) {
+                marks[at] = 1;
+            }
+            end
+        }
     }
-    if kind < 4 {
-        return next + formula::DIM;
-    }
-    let middle = mark(f, next, marks);
-    let end = mark(f, middle, marks);
-    if !share(f, next, middle) {
-        marks[at] = 1;
-    }
-    end
 }

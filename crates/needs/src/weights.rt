@@ -114,16 +114,17 @@ pub fn weigh(f: &MarkedFace, at: usize, state: &[u8]) -> Weight
 {
     let kind = f.face[at];
     let next = at + 1;
-    if kind < 2 {
-        return constant(kind, next);
+    match kind {
+        0..=1 => constant(kind, next),
+        2..=3 => literal(f.face, at, state),
+        _ => {
+            let x = weigh(f, next, state);
+            let y = weigh(f, x.at, state);
+            if kind == 4 {
+                conjoined(f.marks.get(at).copied().unwrap_or(0), x, y)
+            } else {
+                lighter(x, y)
+            }
+        }
     }
-    if kind < 4 {
-        return literal(f.face, at, state);
-    }
-    let x = weigh(f, next, state);
-    let y = weigh(f, x.at, state);
-    if kind == 4 {
-        return conjoined(f.marks.get(at).copied().unwrap_or(0), x, y);
-    }
-    lighter(x, y)
 }
