@@ -1,5 +1,5 @@
 -- What was read into the front of a space, and what is written.
-use Rattle.std.specs.Prelude.{◌≡◌, ℕ, ◌≤◌, ◌<◌, Bool, true, List, ◌∷◌, length, take, flat_map, Option, All, drop, slice_index, ◌+◌, ◌*◌}
+use Rattle.std.specs.Prelude.{◌≡◌, ℕ, ◌≤◌, ◌<◌, Bool, true, List, [], ◌∷◌, ◌%◌, length, take, flat_map, Option, All, drop, slice_index, ◌+◌, ◌*◌}
 use Rattle.std.specs.Fmt.{decimal}
 use Rattle.std.specs.Io.KnownBytes.{Consumes, IsAtEnd}
 
@@ -33,3 +33,12 @@ high_value b = slice_index b 2 + 256 * slice_index b 3
 -- the number of four bytes, the lowest first
 abbrev pub word_value : List ℕ → ℕ
 word_value b = low_value b + 65536 * high_value b
+
+-- the two sums of Adler's checksum, from a and from b on: of the bytes, and of the first sum after each of them
+unfoldable pub low_sum : ℕ → List ℕ → ℕ
+low_sum a [] = a
+low_sum a (x ∷ l) = low_sum ((a + x) % 65521) l
+
+unfoldable pub high_sum : ℕ → ℕ → List ℕ → ℕ
+high_sum a b [] = b
+high_sum a b (x ∷ l) = high_sum ((a + x) % 65521) ((b + (a + x) % 65521) % 65521) l

@@ -1,9 +1,9 @@
 // Bytes in decimal to a writer, numbers and bytes from a reader, and whole inputs: what the programs share.
 #![tactic(auto)]
 
-ghost use Rattle.std.specs.Prelude.{◌≡◌, ◌<◌, ◌≤◌, ◌+◌, ◌-◌, ◌*◌, [], min, length, slice_index, take, drop, true, false, ℕ, List, IfOk, OnOk, OnErr};
+ghost use Rattle.std.specs.Prelude.{◌≡◌, ◌<◌, ◌≤◌, ◌+◌, ◌-◌, ◌*◌, [], min, length, slice_index, take, drop, true, false, replicate, ℕ, List, IfOk, OnOk, OnErr};
 ghost use Rattle.std.specs.Io.KnownBytes.{Appends, Consumes, IsAtEnd, Keeps};
-ghost use Rattle.stdio.specs.Front.{IsPrefixLen, Gathers, spaced, Padded, word_value, low_value, high_value};
+ghost use Rattle.stdio.specs.Front.{IsPrefixLen, Gathers, spaced, Padded, word_value, low_value, high_value, low_sum, high_sum};
 
 use std::io;
 use std::io::{Read, Write};
@@ -68,6 +68,7 @@ pub fn read_all<'a, R: Read>(input: &mut R, space: &'a mut [u8]) -> io::Result<&
     ensures within { IfOk result (λ r. length r.now ≤ length space.old) }
     ensures took { IfOk result (λ r. Consumes (R.remaining input.old) (R.remaining input.new) r.now) }
     ensures ended { IfOk result (λ r. length r.now < length space.old → IsAtEnd (R.remaining input.new)) }
+    ensures err { OnErr result ((b : List ℕ) × (length b ≤ length space.old) × Consumes (R.remaining input.old) (R.remaining input.new) b) }
 {
     let n = fill(input, space)?;
     Ok(&space[..n])
@@ -75,7 +76,8 @@ pub fn read_all<'a, R: Read>(input: &mut R, space: &'a mut [u8]) -> io::Result<&
 
 // Two sums of the bytes, as Adler's checksum has them.
 pub fn adler(s: &[u8]) -> (usize, usize)
-    ensures { (result.0 < 65521) × (result.1 < 65521) }
+    ensures bounds { (result.0 < 65521) × (result.1 < 65521) }
+    ensures sums { (result.0 ≡ low_sum 1 s.now) × (result.1 ≡ high_sum 1 0 s.now) }
 {
     let mut a: usize = 1;
     let mut b: usize = 0;
@@ -128,7 +130,7 @@ pub fn read_bytes<'a, R: Read>(input: &mut R, space: &'a mut [u8], n: usize) -> 
 
 // So many zeros.
 pub fn zeros<const N: usize>() -> [u8; N]
-    ensures { N ≡ length result }
+    ensures { result ≡ replicate N 0 }
 {
     [0; N]
 }
