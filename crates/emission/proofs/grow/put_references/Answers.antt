@@ -5,6 +5,10 @@ use Rattle.calculus.specs.Record.{references_bytes, little_endian}
 use Rattle.emission.proofs.GrowLaws.{references-more}
 use Rattle.emission.proofs.grow.put_references.Goals as goal
 
+pub loop-j-init : goal.loop-j-init
+unfolding references_bytes
+loop-j-init c = refl
+
 pub loop-j-preserved : goal.loop-j-preserved
 loop-j-preserved c = let a = c.args in
     let is : List ℕ = a.references.now in
