@@ -3,7 +3,7 @@ use Prim.Native.Nat.{ℕ, zero, suc, ◌+◌, ◌-◌, ◌*◌, ◌≤◌, ◌<�
 use native.Mathlib.Omega.{arith}
 use native.Mathlib.Nat.{add-zero, add-suc, suc-add, eq-or-lt_of_le}
 use mathlib.Core.Logic.{⊎_elim}
-use mathlib.Core.Path.{◌≡◌, refl, sym, ap, ◌∙◌}
+use mathlib.Core.Path.{◌≡◌, refl, sym, ap, ◌∙◌, subst}
 use mathlib.Core.List.{List, [], ◌∷◌, ◌++◌, append-nil, append_assoc}
 use lib.ListN.{length, take, drop, length-append, length-drop}
 use lib.Seq.{get_or-drop, take_all, drop-drop}
@@ -13,15 +13,17 @@ use Rattle.calculus.specs.Record.{max_ledger, size}
 use Rattle.refusals.specs.Refusals.{number}
 use Rattle.refusals.proofs.Numbers.{number-range}
 use Rattle.replies.specs.Replying.{said}
-use Rattle.replies.specs.declared.Called.{Called}
-use Rattle.replies.specs.declared.Called.TheVariants.{Step as StepAnswer, Refused as RefusedAnswer}
+use Rattle.std.specs.Prelude.{Result, Ok, Err}
+use Rattle.refusals.specs.declared.Refusal.{Refusal}
 use Rattle.calculus.specs.Table.{text_bytes}
 use Rattle.ledger.specs.Ledger.{steps_of, place_of, Led, Points}
 use Rattle.ledger.proofs.LedgerLaws.{many, place-next, place_end}
 use Rattle.ledger.proofs.PointLaws.{Walks, walks-start, walks-points, walks-end, walks_next, walks-forward}
 use Rattle.writing.specs.Texts.{decimal_text}
-use Rattle.writing.specs.Writing.{Room, Wrote}
-use Rattle.writing.proofs.WriteLaws.{wrote-next, wrote_as, wrote_none, wrote-length, room_as}
+use Rattle.writing.specs.Writing.{Room, Wrote, Writes}
+use Rattle.writing.specs.declared.Writer.{Writer}
+use Rattle.claims.specs.declared.Page.{Page}
+use Rattle.writing.proofs.WriteLaws.{wrote-next, wrote_as, wrote_none, wrote-length, wrote-to, room_as, writes-as}
 use Rattle.listing.specs.Lines.{line_text}
 use Rattle.listing.specs.Writing.{step_of, Shows}
 use Rattle.listing.proofs.LineLaws.{line-short, decimal-short}
@@ -92,6 +94,15 @@ pub record Listing (l : List ℕ) (from : ℕ) (out₀ : List ℕ) (step at to :
   pub forward : from ≤ step
   pub wrote : Wrote (lines_to l from step) out₀ 0 to out
 
+-- The first line, written from the output's front.
+pub listing-begin : {l out : List ℕ} {step at to : ℕ} → Led l → step ≡ 0 → at ≡ 4 → to ≡ 0 → Listing l 0 out step at to out
+listing-begin {l} {out} {step} {at} h e f g =
+    record {
+      walks = subst (λ s. Walks l s at) (sym e) (subst (Walks l 0) (sym f) (walks-start h));
+      forward = omega arith;
+      wrote = wrote_as (sym (ap (lines_to l 0) e ∙ lines_none l 0)) (wrote-to (sym g) wrote_none);
+    }
+
 pub listing_start : {l out : List ℕ} {from at : ℕ} → Walks l from at → Listing l from out from at 0 out
 listing_start {l} {from = from} w = record { walks = w; forward = omega arith; wrote = wrote_as (sym (lines_none l from)) wrote_none }
 
@@ -145,22 +156,33 @@ module _ {l out₀ out : List ℕ} {from step at to : ℕ} (h : Listing l from o
   pub page-last : {end : ℕ} → end ≡ size (steps_of l) → end ≤ at → Pages l from out₀ (record { step = step; at = at; len = to }) out
   page-last e k = page (λ i. omega (arith, walks-end h.walks (omega (arith, e)), i))
 
+-- The output's bytes, told by another name.
+pub wrote-same : {x out out' o : List ℕ} {to r : ℕ} → o ≡ out' → Wrote x out to r out' → Wrote x out to r o
+wrote-same e w = record { end = w.end; bytes = e ∙ w.bytes }
+
+pub pages-same : {l out out' o : List ℕ} {step : ℕ} {p : Page} → o ≡ out' → Pages l step out p out' → Pages l step out p o
+pages-same {l} {out} {step = step} {p} e h = subst (Pages l step out p) (sym e) h
+
+-- All lines, from a place that is the front.
+pub lines-writes : (l : List ℕ) {w w' : Writer} → w.to ≡ 0 → Wrote (lines_from 0 (steps_of l)) w.out.now 0 w'.to w'.out.now → w'.out.ghost_name ≡ w.out.ghost_name → Writes (lines_from 0 (steps_of l)) w w'
+lines-writes l {w} {w'} e h s = record { wrote = subst (λ k. Wrote (lines_from 0 (steps_of l)) w.out.now k w'.to w'.out.now) (sym e) h; same = s }
+
 -- The last line ----------------------------------------------------------------------------------------
 
-pub verdict-room : {a b : Called} {to : ℕ} → a ≡ b → Room to (verdict_text (said a)) → Room to (verdict_text (said b))
-verdict-room e h = room_as (ap (λ (a : Called). verdict_text (said a)) e) h
+pub verdict-room : {a b : Result ℕ Refusal} {to : ℕ} → a ≡ b → Room to (verdict_text (said a)) → Room to (verdict_text (said b))
+verdict-room e h = room_as (ap (λ (a : Result ℕ Refusal). verdict_text (said a)) e) h
 
-pub verdict-wrote : {a b : Called} {to r : ℕ} {out out' : List ℕ} → a ≡ b → Wrote (verdict_text (said b)) out to r out' → Wrote (verdict_text (said a)) out to r out'
-verdict-wrote e w = wrote_as (ap (λ (a : Called). verdict_text (said a)) (sym e)) w
+pub verdict-writes : {a b : Result ℕ Refusal} {w w' : Writer} → a ≡ b → Writes (verdict_text (said b)) w w' → Writes (verdict_text (said a)) w w'
+verdict-writes e w = writes-as (ap (λ (a : Result ℕ Refusal). verdict_text (said a)) (sym e)) w
 
-pub verdict-short : (a : Called) → ((n : ℕ) → a ≡ StepAnswer n → n < max_ledger) → length (verdict_text (said a)) ≤ 1048600
+pub verdict-short : (a : Result ℕ Refusal) → ((n : ℕ) → a ≡ Ok n → n < max_ledger) → length (verdict_text (said a)) ≤ 1048600
 unfolding text_bytes
-verdict-short (StepAnswer n) h = omega (arith, h n refl, decimal-short n, length-append (decimal_text n) (10 ∷ []))
-verdict-short (RefusedAnswer e) h = let n = number e in omega (arith, number-range e, decimal-short n, length-append (decimal_text n) (10 ∷ []))
+verdict-short (Ok n) h = omega (arith, h n refl, decimal-short n, length-append (decimal_text n) (10 ∷ []))
+verdict-short (Err e) h = let n = number e in omega (arith, number-range e, decimal-short n, length-append (decimal_text n) (10 ∷ []))
 
 -- What was asked, printed ------------------------------------------------------------------------------
 
-module _ {input l : List ℕ} {a : Called} (h : Asks input a l) where
+module _ {input l : List ℕ} {a : Result ℕ Refusal} (h : Asks input a l) where
   pub listed-room : Room 0 (listed l a)
   listed-room =
       let n = length (steps_of l) in
@@ -199,13 +221,10 @@ pages-all l i k h =
     let e : i + (k - i) ≡ k = omega arith in
     lines_cut i (drop i L) (k - i) ∙ ap (λ (M : List Step). lines_to l i k ++ lines_from (i + (k - i)) M) (drop-drop (k - i) i L) ∙ ap (λ (n : ℕ). lines_to l i k ++ lines_from n (drop n L)) e
 
--- The first page, and a place before a step.
+-- The first page.
 pub among-start : {l : List ℕ} → Led l → Among l 0 4
 among-start h = let w = walks-start h in record { led = w.led; inside = w.among; place = w.place }
 
-pub among-inside : {l : List ℕ} {step at end : ℕ} → Among l step at → end ≡ size (steps_of l) → at < end → step < length (steps_of l)
-among-inside a e b = (walks-points (walks-among a) (omega (arith, e))).inside
-
 -- The last line fits into the room for a page.
-pub verdict-fits : {input l out out' : List ℕ} {a : Called} {r : ℕ} → Asks input a l → Wrote (verdict_text (said a)) out 0 r out' → 1048600 ≤ length out → r ≤ length out'
+pub verdict-fits : {input l out out' : List ℕ} {a : Result ℕ Refusal} {r : ℕ} → Asks input a l → Wrote (verdict_text (said a)) out 0 r out' → 1048600 ≤ length out → r ≤ length out'
 verdict-fits {a = a} h w b = omega (arith, verdict-short a h.small, w.end, wrote-length w)

@@ -1,19 +1,19 @@
 -- What the program facesteps prints (document 01, "Text and listing"): the steps of a claim typed as a line, and the answer.
-use Rattle.std.specs.Prelude.{ℕ, suc, List, [], ◌∷◌, ◌++◌, eqb, leb, length}
+use Rattle.std.specs.Prelude.{ℕ, suc, List, [], ◌∷◌, ◌++◌, Result, Ok, Err, eqb, leb, length}
 use Rattle.formula.specs.declared.Sort.TheVariants.{Faces}
 use Rattle.formula.specs.Bytes.{encode}
 use Rattle.formula.specs.Answers.{pick}
 use Rattle.calculus.specs.Judgement.{Step}
 use Rattle.calculus.specs.Table.{text_bytes}
 use Rattle.refusals.specs.declared.Refusal.TheVariants.{NotAccepted}
-use Rattle.refusals.specs.Refusals.{number, Result, refused, done}
+use Rattle.refusals.specs.declared.Refusal.{Refusal}
+use Rattle.refusals.specs.Refusals.{number}
 use Rattle.calculus.specs.Door
 use Rattle.calculus.specs.Door.{answered, entails, reply}
 use Rattle.calculus.specs.Demand.{empty}
 use Rattle.ledger.specs.Ledger.{steps_of}
 use Rattle.text.specs.Reading.{Claimed, read_claim}
 use Rattle.text.specs.Wholes.{Delivers}
-use Rattle.text.specs.declared.Length.{Length}
 use Rattle.writing.specs.Texts.{decimal_text}
 use Rattle.listing.specs.Lines.{line_text}
 
@@ -23,8 +23,8 @@ first_line [] = []
 first_line (b ∷ l) = pick (eqb b 10) [] (b ∷ first_line l)
 
 -- The claim that a line is; 11 where it has over 4,096 bytes, before any token is read.
-abbrev pub line_claim : List ℕ → Result Claimed
-line_claim l = pick (leb (length l) 4096) (read_claim l) (refused NotAccepted)
+abbrev pub line_claim : List ℕ → Result Claimed Refusal
+line_claim l = pick (leb (length l) 4096) (read_claim l) (Err NotAccepted)
 
 -- The ledger that the program starts with.
 abbrev pub blank : List ℕ
@@ -36,9 +36,9 @@ pub record Asked : Type 0 where
   pub ledger : List ℕ
 
 -- The claim is asked by entails; where the line is none, the ledger stays blank.
-abbrev pub asked : Result Claimed → Asked
-asked (refused e) = record { answer = Door.refused e; ledger = blank }
-asked (done c) =
+abbrev pub asked : Result Claimed Refusal → Asked
+asked (Err e) = record { answer = Door.refused e; ledger = blank }
+asked (Ok c) =
     let r = reply (entails c.dimensions (encode Faces c.left) (encode Faces c.right)) blank in
     record { answer = r.answer; ledger = r.ledger }
 
@@ -61,5 +61,5 @@ unfoldable pub facesteps : List ℕ → List ℕ
 facesteps input = printed (asked (line_claim (first_line input)))
 
 -- The answer and every byte of the output are those for what the program prints; 6 where it does not fit.
-pub record PrintsInto (input out : List ℕ) (r : Length) (out' : List ℕ) : Type 0 where
+pub record PrintsInto (input out : List ℕ) (r : Result ℕ Refusal) (out' : List ℕ) : Type 0 where
   pub delivers : Delivers (facesteps input) out r out'

@@ -1,22 +1,21 @@
 -- For private contracts, and for the program: a claim asked, and the lines of a ledger page by page.
-use Rattle.std.specs.Prelude.{ℕ, ◌-◌, ◌≤◌, ◌<◌, ◌≡◌, List, ◌++◌, length, take, drop}
+use Rattle.std.specs.Prelude.{ℕ, ◌-◌, ◌≤◌, ◌<◌, ◌≡◌, Result, Ok, List, ◌++◌, length, take, drop}
 use Rattle.calculus.specs.Record.{max_ledger}
 use Rattle.ledger.specs.Ledger.{steps_of, place_of, Led}
 use Rattle.replies.specs.Replying.{said}
-use Rattle.replies.specs.declared.Called.{Called}
-use Rattle.replies.specs.declared.Called.TheVariants.{Step}
+use Rattle.refusals.specs.declared.Refusal.{Refusal}
 use Rattle.writing.specs.Writing.{Wrote}
 use Rattle.claims.specs.Facesteps.{first_line, line_claim, asked, lines_from, verdict_text}
 use Rattle.claims.specs.declared.Page.{Page}
 
 -- What was asked is answered, and the ledger is left, as for the first line of the input.
-pub record Asks (input : List ℕ) (r : Called) (l' : List ℕ) : Type 0 where
+pub record Asks (input : List ℕ) (r : Result ℕ Refusal) (l' : List ℕ) : Type 0 where
   pub equal : asked (line_claim (first_line input)) ≡ record { answer = said r; ledger = l' }
   pub led : Led l'
-  pub small : (n : ℕ) → r ≡ Step n → n < max_ledger
+  pub small : (n : ℕ) → r ≡ Ok n → n < max_ledger
 
 -- The lines of a ledger, and behind them the answer.
-abbrev pub listed : List ℕ → Called → List ℕ
+abbrev pub listed : List ℕ → Result ℕ Refusal → List ℕ
 listed l a = lines_from 0 (steps_of l) ++ verdict_text (said a)
 
 -- A place among the records: before a step, or behind the last.

@@ -51,9 +51,6 @@ pub number-shown : (l : List ℕ) {n : ℕ} {m : List ℕ} → take_dim l ≡ go
 number-shown [] e = absurd (nothing-got e)
 number-shown (b ∷ l) e = record { long = omega arith; here = sym (got-value e); behind = sym (got-rest e) }
 
-pub number-room : (l : List ℕ) {to n : ℕ} (f : NumberFronts l to) → n ≡ dim_at l 0 → Room to (unary_text n)
-number-room l f e = room_as (ap unary_text ((number-shown l f.reads).here ∙ sym e)) f.room
-
 pub number-prints : (l : List ℕ) {out out' : List ℕ} {to r n : ℕ} → n ≡ dim_at l 0 → Wrote (unary_text n) out to r out' → NumberPrints l out to (record { at = dim_width; to = r }) out'
 number-prints l e w = record { it = λ x m h. let v = number-shown l h in record { rest = v.behind; inside = v.long; wrote = wrote_as (ap unary_text (e ∙ sym v.here)) w } }
 

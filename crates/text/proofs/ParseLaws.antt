@@ -310,9 +310,6 @@ word-as p = record { named = p }
 
 -- A word that names no node.
 module _ {s : Sort} {l out : List ℕ} {b : ℕ} {c : Cursor} (w : WordRead s l b c None) where
-  pub bare-none : Parses (single s) (bare_at s l b c) l c out (Err NotAccepted) out
-  bare-none = record { it = λ K. ap (λ o. bare_node (node_if s o) c.left K (run (tokens (drop c.at l)))) (sym w.named) }
-
   pub node-none : Parses (single s) (node_at s l b c) l c out (Err NotAccepted) out
   node-none = record { it = λ K. ap (λ o. list_node s (node_if s o) c.left K (run (tokens (drop c.at l)))) (sym w.named) }
 
@@ -376,10 +373,6 @@ last-refused h = record { it = λ K. h.it (close ∷ K) }
 pub both-refused : {s : Sort} {l out out₁ : List ℕ} {c : Cursor} {q : Refusal} → Parses (single s) (part_at s l c) l c out (Err q) out₁ → Parses (double s) (both_at s l c) l c out (Err q) out₁
 both-refused {s} h = record { it = λ K. ap (map (λ v. ((v.0, v.1.0), v.1.1))) (h.it (part s ∷ close ∷ K)) }
 
--- Room at another place, and behind a head.
+-- Room at another place.
 pub ready_moved : {c : Cursor} {l out : List ℕ} {e : ℕ} → Ready c l out → e ≤ length l → Ready (moved c e) l out
 ready_moved h b = record { inside = b; room = h.room }
-
-pub ready-headed : {c d : Cursor} {l out out₁ : List ℕ} {k : ℕ} → Ready c l out → Heads k c out (Ok d) out₁ → Ready d l out₁
-ready-headed {c} {d} {l} {out} {out₁} {k} h w =
-    subst (λ d. Ready d l out₁) (sym w.it.0) (subst (Ready (headed c) l) (sym w.it.1) (record { inside = h.inside; room = omega (arith, h.room, w.it.2, length-set out c.to k) }))

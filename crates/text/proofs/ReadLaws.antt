@@ -102,9 +102,6 @@ pub closed-missing : {l : List ℕ} {i most : ℕ} {q : Refusal} (m : ℕ) → C
 closed-missing m h = record { it = λ n K. ap (map (λ v. (m, v))) (h.it n K) }
 
 -- One s more.
-pub next-none : {l : List ℕ} {i most : ℕ} → most ≡ 0 → Numerals (next_at l i most) l i most (Err LargeDimension)
-next-none {l} {i} e = record { it = λ n K. ap (λ (k : ℕ). succeeded k n K (run (tokens (drop i l)))) e }
-
 nexts : (l : List ℕ) (i most : ℕ) → (most ≡ 0 → ⊥) → (n : ℕ) (K : List Item) → next_at l i most n K ≡ map (λ v. (suc v.0, v.1)) (number_at l i (most - 1) n (close ∷ K))
 nexts l i zero z n K = absurd (z refl)
 nexts l i (suc k) z n K = let p : k ≡ suc k - 1 = omega arith in ap (λ (k : ℕ). map (λ v. (suc v.0, v.1)) (number_at l i k n (close ∷ K))) p

@@ -56,9 +56,6 @@ pub sized-wrote : {s : Sort} {l z z' out out' o : List ℕ} {p q : Place} → Fo
 sized-wrote g h k e = record { it = λ t m r. writes-deliver (g.it t m r).wrote h (k.it t m r).wrote e }
 
 -- Nothing but a formula within the limits is written.
-pub writes-refused : (s : Sort) (f out : List ℕ) {q : Refusal} → Err q ≡ map (size_of s) (operand s f) → WritesInto s f out (Err q) out
-writes-refused s f out e = record { equal = ap (λ x. delivered (map (formula_text s) x) out) (sized-refused s (operand s f) e) }
-
 module _ (s : Sort) (f : List ℕ) {z : Size} (e : Ok z ≡ map (size_of s) (operand s f)) where
   abbrev h : Fitted s (operand s f) z
   h = sized-fits s (operand s f) e

@@ -1,24 +1,16 @@
-use native.Mathlib.Omega.{arith}
-use Rattle.claims.proofs.AskLaws.{line-ends, line-goes-on, line-over, line-whole}
+use Rattle.std.proofs.Common.{◌≡◌, sym, ◌∙◌, eqb, rules, tests}
+use Rattle.std.specs.Prelude.{position}
+use Rattle.std.proofs.lemmas.Iterator.{YieldsList-from_slice}
+use Rattle.std.proofs.lemmas.Iterator.Search.{position_from_yields_List}
+use Rattle.claims.proofs.AskLaws.{line-found, line-none}
+use Rattle.claims.proofs.asking.line_length.Goals.{After-position}
 use Rattle.claims.proofs.asking.line_length.Goals as goal
 
-pub loop-i-init : goal.loop-i-init
-loop-i-init c = (omega arith, line-whole c.args.input.now)
+found : (c : After-position) → c.position.result ≡ position (λ b. eqb b 10) c.args.input.now
+found c = position_from_yields_List (λ b. eqb b 10) _ _ c.position.result c.position.ensures.ran (YieldsList-from_slice _ c.iter.ensures.rest) (λ x b q k. search (rules, tests))
 
-pub bounds-input-i : goal.bounds-input-i
-bounds-input-i c = omega arith
+pub returns-in-Some : goal.returns-in-Some
+returns-in-Some c = line-found c.args.input.now (sym (found (goal.at.returns-in-Some c).After-position) ∙ c.in-Some.is)
 
-pub returns-then-ends : goal.returns-then-ends
-returns-then-ends c = omega (arith, c.loop-i.invariant.1, line-ends c.args.input.now c.loop-i.i c.loop-i-test.true c.if-ends.true)
-
-pub overflow_add-i : goal.overflow_add-i
-overflow_add-i c = omega arith
-
-pub loop-i-smaller : goal.loop-i-smaller
-loop-i-smaller c = omega arith
-
-pub loop-i-preserved : goal.loop-i-preserved
-loop-i-preserved c = (omega arith, omega (arith, c.loop-i.invariant.1, line-goes-on c.args.input.now c.loop-i.i c.loop-i-test.true c.if-ends.false))
-
-pub returns : goal.returns
-returns c = omega (arith, c.loop-i.invariant.1, line-over c.args.input.now c.loop-i.i c.loop-i-test.false)
+pub returns-in-None : goal.returns-in-None
+returns-in-None c = line-none c.args.input.now (sym (found (goal.at.returns-in-None c).After-position) ∙ c.in-None.is)

@@ -1,28 +1,21 @@
-use Rattle.ledger.proofs.PointLaws.{walks-start}
-use Rattle.writing.proofs.WriteLaws.{wrote-length}
-use Rattle.claims.proofs.PrintLaws.{listing_start, listing-points, listing-shows, listing-next, listing-all, listing-less}
+use Rattle.std.proofs.Common.{refl, ◌∙◌, arith}
+use Rattle.claims.proofs.PrintLaws.{listing-begin, listing-points, listing-shows, listing-next, listing-all, listing-less, lines-writes}
 use Rattle.claims.proofs.printing.lines.Goals as goal
 
-pub used-end-requires : goal.used-end-requires
-used-end-requires c = c.requires
+pub loop-c-init : goal.loop-c-init
+loop-c-init c = (c.used-end.ensures, listing-begin c.requires.0 c.start-c.ensures.0 c.start-c.ensures.1 c.requires.1, refl)
 
-pub loop-at-init : goal.loop-at-init
-loop-at-init c = (c.used-end.ensures, listing_start (walks-start c.requires))
+pub line-requires : goal.line-requires
+line-requires c = listing-shows c.loop-c.invariant.1 c.loop-c.invariant.0 c.loop-c-test.true
 
-pub line-to-requires : goal.line-to-requires
-line-to-requires c = listing-shows c.loop-at.invariant.1 c.loop-at.invariant.0 c.loop-at-test.true
+pub next-c-requires : goal.next-c-requires
+next-c-requires c = listing-points c.loop-c.invariant.1 c.loop-c.invariant.0 c.loop-c-test.true
 
-pub next-n-requires : goal.next-n-requires
-next-n-requires c = listing-points c.loop-at.invariant.1 c.loop-at.invariant.0 c.loop-at-test.true
+pub loop-c-smaller : goal.loop-c-smaller
+loop-c-smaller c = listing-less (listing-points c.loop-c.invariant.1 c.loop-c.invariant.0 c.loop-c-test.true) c.next-c.ensures.1 c.loop-c.invariant.0
 
-pub loop-at-smaller : goal.loop-at-smaller
-loop-at-smaller c = listing-less (listing-points c.loop-at.invariant.1 c.loop-at.invariant.0 c.loop-at-test.true) c.next-n.ensures.1 c.loop-at.invariant.0
-
-pub loop-at-preserved : goal.loop-at-preserved
-loop-at-preserved c = (c.loop-at.invariant.0, listing-next c.loop-at.invariant.1 c.loop-at.invariant.0 c.loop-at-test.true c.line-to.ensures c.next-n.ensures)
-
-pub shape_of-out : goal.shape_of-out
-shape_of-out c = wrote-length c.loop-at.invariant.1.wrote
+pub loop-c-preserved : goal.loop-c-preserved
+loop-c-preserved c = (c.loop-c.invariant.0, listing-next c.loop-c.invariant.1 c.loop-c.invariant.0 c.loop-c-test.true c.line.ensures.wrote c.next-c.ensures, c.line.ensures.same ∙ c.loop-c.invariant.2)
 
 pub returns : goal.returns
-returns c = listing-all c.loop-at.invariant.1 c.loop-at.invariant.0 c.loop-at-test.false
+returns c = lines-writes c.args.l.now c.requires.1 (listing-all c.loop-c.invariant.1 c.loop-c.invariant.0 c.loop-c-test.false) c.loop-c.invariant.2

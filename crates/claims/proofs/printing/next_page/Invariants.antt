@@ -1,12 +1,12 @@
-use Prim.Native.Nat.{◌-◌, ◌≤◌}
-use mathlib.Core.Path.{◌≡◌}
+use Rattle.std.proofs.Common.{◌≡◌, ◌-◌, ◌≤◌}
 use Rattle.calculus.specs.Record.{size}
 use Rattle.ledger.specs.Ledger.{steps_of}
 use Rattle.claims.proofs.PrintLaws.{Listing}
 use Rattle.claims.proofs.printing.next_page.Given as goal
 
-abbrev pub invariant-loop-place : goal.invariant-loop-place
-invariant-loop-place l = (l.end ≡ size (steps_of l.l)) × (l.to ≤ 2600000) × Listing l.l l.step l.initial.out l.i l.place l.to l.out
+abbrev pub invariant-loop-c : goal.invariant-loop-c
+invariant-loop-c l =
+    (l.end ≡ size (steps_of l.l)) × (l.w.to ≤ 2600000) × Listing l.l l.step l.initial.w.out.now l.c.step l.c.at l.w.to l.w.out.now × (l.w.out.ghost_name ≡ l.initial.w.out.ghost_name)
 
-abbrev pub decreases-loop-place : goal.decreases-loop-place
-decreases-loop-place l = l.end - l.place
+abbrev pub decreases-loop-c : goal.decreases-loop-c
+decreases-loop-c l = l.end - l.c.at

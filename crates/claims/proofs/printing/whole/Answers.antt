@@ -1,8 +1,8 @@
-use Rattle.writing.proofs.WriteLaws.{room_next, wrote-next}
+use Rattle.writing.proofs.WriteLaws.{room_next, writes-next}
 use Rattle.claims.proofs.printing.whole.Goals as goal
 
-pub verdict-requires : goal.verdict-requires
-verdict-requires c = room_next _ c.requires.1 c.lines-to.ensures
+pub last_line-requires : goal.last_line-requires
+last_line-requires c = room_next _ c.requires.2 c.lines.ensures.wrote
 
 pub returns : goal.returns
-returns c = wrote-next c.lines-to.ensures c.verdict.ensures
+returns c = writes-next c.lines.ensures c.last_line.ensures
