@@ -22,6 +22,10 @@ use Rattle.repeat_test.specs.Repeats.{SameClaim, same_claim?, last_step, end_ali
 use Rattle.repeat_test.proofs.TestLaws.{decide-same}
 use Rattle.repeat_test.proofs.ClaimLaws.{claims, same-judgements, same_back, same-on, same_self, last-formed, entails-kind}
 
+-- The contract of `repeats` allows one answer.
+pub said-one : (l m : List ℕ) (r q : Result Bool Refusal) → r ≡ repeat_test (read_ledger l) (read_ledger m) → q ≡ repeat_test (read_ledger l) (read_ledger m) → r ≡ q
+said-one l m r q e f = e ∙ sym f
+
 -- Ledgers -----------------------------------------------------------------------------------------
 
 -- The bytes are a ledger whose last step has this judgement.
