@@ -1,14 +1,13 @@
 -- The first line of an input, and the claim that it is, asked.
 use Prim.Native.Nat.{ℕ, suc, ◌+◌, ◌≤◌, ◌<◌}
 use native.Mathlib.Omega.{arith}
-use native.Mathlib.Numerals.{add-one}
 use mathlib.Core.Path.{◌≡◌, refl, sym, ap, ap₂, ◌∙◌, subst}
 use mathlib.Core.Bool.{Bool, true, false, ◌&&◌}
 use mathlib.Core.List.{List, [], ◌∷◌}
-use borrow.Author.Tests.{le-leb, lt-leb, ne_eqb, eq-eqb}
+use borrow.Author.Tests.{le-leb, lt-leb}
 use lib.Dec.{eqb, leb}
-use lib.ListN.{length, get_or, take, drop, length-drop}
-use lib.Seq.{sets, length-sets, drop-cons}
+use lib.ListN.{length, take}
+use lib.Seq.{sets, length-sets}
 use Rattle.formula.specs.declared.Sort.TheVariants.{Faces}
 use Rattle.formula.specs.Formula.{Face, ff}
 use Rattle.formula.specs.Bytes.{encode, nodes, max_nodes}
@@ -17,7 +16,7 @@ use Rattle.formula.proofs.Nodes.{len_short}
 use Rattle.calculus.specs.Record.{max_ledger}
 use Rattle.refusals.specs.declared.Refusal.{Refusal}
 use Rattle.refusals.specs.declared.Refusal.TheVariants.{ShortOutput, NotAccepted}
-use Rattle.std.specs.Prelude.{Result, Ok, Err, Option, Some, None, cond, nat_lt, unwrap_or, position}
+use Rattle.std.specs.Prelude.{Result, Ok, Err, Some, None, cond, nat_lt, unwrap_or, position}
 use Rattle.std.specs.List.{position_or_len}
 use Rattle.std.proofs.lemmas.List.Recursion.{is_position_or_len}
 use Rattle.calculus.specs.Door

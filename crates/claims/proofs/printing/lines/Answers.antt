@@ -1,4 +1,4 @@
-use Rattle.std.proofs.Common.{refl, ◌∙◌, arith}
+use Rattle.std.proofs.Common.{refl, ◌∙◌}
 use Rattle.claims.proofs.PrintLaws.{listing-begin, listing-points, listing-shows, listing-next, listing-all, listing-less, lines-writes}
 use Rattle.claims.proofs.printing.lines.Goals as goal
 

@@ -1,5 +1,6 @@
 use Rattle.std.proofs.Common.{refl, sym, ◌∙◌, arith, rules}
 use Rattle.claims.proofs.PrintLaws.{listing_start, listing-points, listing-shows, listing-next, listing-less, walks-among, page-fits, page-full, page-last, pages-same}
+use Rattle.claims.proofs.printing.next_page.Goals.{else-loop-c-test, then-loop-c-test+then-w-ge65536}
 use Rattle.claims.proofs.printing.next_page.Goals as goal
 
 pub loop-c-init : goal.loop-c-init
@@ -19,4 +20,9 @@ loop-c-preserved c =
     (c.loop-c.invariant.0, page-fits (listing-points c.loop-c.invariant.2 c.loop-c.invariant.0 c.loop-c-test.true) c.requires.1 c.if-w-ge65536.false c.line.ensures.wrote, listing-next c.loop-c.invariant.2 c.loop-c.invariant.0 c.loop-c-test.true c.line.ensures.wrote c.next-c.ensures, c.line.ensures.same ∙ c.loop-c.invariant.3)
 
 pub returns : goal.returns
-returns c = ?
+returns c =
+    pages-same (let s = c.loop-c.invariant.3 in search (rules, s, sym))
+    (elim c.loop-c-test.branch [
+      | else-loop-c-test w ↦ page-last c.loop-c.invariant.2 c.loop-c.invariant.1 c.requires.2 c.loop-c.invariant.0 w.loop-c-test.false
+      | then-loop-c-test+then-w-ge65536 w ↦ page-full c.loop-c.invariant.2 c.loop-c.invariant.1 c.requires.2 w.if-w-ge65536.true
+    ])
