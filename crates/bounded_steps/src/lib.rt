@@ -16,9 +16,10 @@ ghost use Rattle.bounded_steps.specs.Programs.{bounded_kind, emit_bounded};
 use formula::{Advance, Place, Sort};
 use steps::{Order, Producer, Ran, Stop, Walked};
 
-// The kind of the rule for a dimension as an interval, and the byte that a dimension begins with.
+// The kind of the rule for a dimension as an interval.
 const DIMENSION: usize = 7;
 
+// The byte that a dimension begins with.
 const DIMENSION_BYTE: u8 = 18;
 
 // The kind of the rule for a formula that begins with this byte.

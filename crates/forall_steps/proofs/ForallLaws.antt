@@ -1,10 +1,9 @@
 -- The emitter of forall.
-use Prim.Native.Nat.{ℕ, zero, suc, ◌+◌, ◌≤◌, ◌<◌, compare}
+use Prim.Native.Nat.{ℕ, zero, suc, ◌+◌, ◌<◌, compare}
 use native.Mathlib.Omega.{arith}
 use mathlib.Core.Path.{◌≡◌, refl, sym, ap, ap₂, ◌∙◌, subst}
 use mathlib.Core.List.{List, [], ◌∷◌, ◌++◌}
 use lib.ListN.{get_or}
-use borrow.Author.Tests.{lt-ltb, le-ltb, ne_eqb}
 use Rattle.formula.specs.declared.Sort.TheVariants.{Faces}
 use Rattle.formula.specs.declared.Place.{Place}
 use Rattle.formula.specs.Formula.{End, Face, at}
@@ -121,13 +120,3 @@ pub literal-above : {l l₁ l₂ : Book} {x f : List ℕ} {s : Ran} {i j z n : �
     → Runs l (emit_comparison less k n) (Ok i) l₁ → Emits l₁ (forall_kind (get_or f 0 0) + 2) (i ∷ j ∷ z ∷ []) x s l₂ → Runs l (emit_forall k t) s l₂
 literal-above {l} {l₂ = l₂} {f = f} {s = s} {n = n} k t (at-end e p) h m o w y =
     subst (λ (y : Program). Runs l y s l₂) (sym (above-program k n e h)) (runs-emit w refl refl (emits-kind (end-kind (λ (m : ℕ). forall_kind m + 2) e (get_or f 0 0) 43 46 p refl refl) y) (above-rule k n e h) m o)
-
--- The kind of a byte.
-pub kind-first : (b : ℕ) → b < 3 → b + 39 ≡ forall_kind b
-kind-first b h = rw (lt-ltb b 3 h) refl
-
-pub kind-third : (b : ℕ) → b ≡ 3 → 44 ≡ forall_kind b
-kind-third b h = ap forall_kind (sym h)
-
-pub kind-last : (b : ℕ) → 3 ≤ b → (b ≡ 3 → ⊥) → b + 43 ≡ forall_kind b
-kind-last b h d = rw (le-ltb b 3 h, ne_eqb b 3 d) refl

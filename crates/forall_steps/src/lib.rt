@@ -16,11 +16,13 @@ ghost use Rattle.forall_steps.specs.Programs.{forall_kind};
 use formula::{Advance, Place, Sort};
 use steps::{Order, Paired, Producer, Ran, Stop};
 
-// The three rules of a literal on n, in the order of their kinds: n is k, or below it, or above.
+// The first rule of a literal: it is on k.
 const HIT: usize = 0;
 
+// The second: it is below k.
 const BELOW: usize = 1;
 
+// The third: it is above k.
 const ABOVE: usize = 2;
 
 // The kind of the rule `more` after the first for a face that begins with this byte.

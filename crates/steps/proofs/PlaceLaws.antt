@@ -4,7 +4,7 @@ use native.Mathlib.Omega.{arith}
 use mathlib.Core.Path.{◌≡◌, refl, sym, ap, ap₂, ◌∙◌, subst}
 use mathlib.Core.List.{List, [], ◌∷◌, ◌++◌, append_assoc, append-nil}
 use lib.ListN.{length, get_or, take, drop, length-append, length-drop, get_or-append}
-use lib.Seq.{length-take-le, take_at, drop-drop, drop-append_seam, get_or-drop}
+use lib.Seq.{take_at, drop-drop, drop-append_seam, get_or-drop}
 use borrow.Author.Tests.{le-leb}
 use Rattle.formula.specs.declared.Sort.{Sort}
 use Rattle.formula.specs.declared.Advance.{Advance}
@@ -55,9 +55,6 @@ whole_part h = (whole-at h).is.bytes ∙ sym h.bytes
 pub known_at : {s : Sort} {t : Tree s} {l : List ℕ} {p : Place} → StandsAt s t l p → KnownAt s l p
 known_at {s} {l = l} {p} h = subst (λ u. StandsAt s u l p) (sym (tree-of h.is)) h
 
-pub tree-at : {s : Sort} {t : Tree s} {l : List ℕ} {p : Place} → StandsAt s t l p → tree_at s l p ≡ t
-tree-at h = tree-of h.is
-
 module _ {s : Sort} {t : Tree s} {l : List ℕ} {p : Place} (h : StandsAt s t l p) where
   first : Front s t l p.at
   first = front s t l p.at h.is.bytes
@@ -105,12 +102,6 @@ module _ {s : Sort} {t : Tree s} {l : List ℕ} {p : Place} (h : StandsAt s t l 
   -- What stands behind the first byte.
   behind-byte : {b : ℕ} {m : List ℕ} → encode s t ≡ b ∷ m → drop (p.at + 1) l ≡ m ++ first.rest
   behind-byte {b} {m} e = sym (drop-drop 1 p.at l) ∙ ap (drop 1) (first.bytes ∙ ap (λ (y : List ℕ). y ++ first.rest) e)
-
--- How many bytes a span has.
-pub span-some : {l x : List ℕ} {at : ℕ} {q : Place} → Spans l at q → x ≡ span at q l → (0 < length x) × (length x ≤ 1022)
-span-some {l} {x} {at} {q} h e =
-    let n : length x ≡ q.at - at = ap length e ∙ length-take-le (q.at - at) (drop at l) (omega (arith, h.inside, length-drop at l)) in
-    (omega (arith, n, h.some), omega (arith, n, h.few))
 
 -- Both parts of a formula over two, at their places.
 pub record PairAt (s : Sort) (x y : Tree s) (l : List ℕ) (p : Place) : Type 0 where

@@ -1,5 +1,5 @@
 -- One run after another on a ledger's bytes.
-use Prim.Native.Nat.{ℕ, ◌+◌, ◌≤◌, ◌<◌}
+use Prim.Native.Nat.{ℕ, ◌≤◌, ◌<◌}
 use native.Mathlib.Omega.{arith}
 use mathlib.Core.Path.{◌≡◌, refl, sym, ap, ◌∙◌, subst, subst₂}
 use mathlib.Core.Bool.{Bool, true, false}
@@ -185,10 +185,6 @@ emits-by {kind} h {j} q is n b m t e = emits-as h is j (subst (λ (k : ℕ). Lis
 
 pub emits-kind : {l l' : Book} {kind k : ℕ} {references x : List ℕ} {r : Ran} → kind ≡ k → Emits l kind references x r l' → Emits l k references x r l'
 emits-kind {l} {l'} {references = references} {x} {r} e h = subst (λ (n : ℕ). Emits l n references x r l') e h
-
--- The first of several rules.
-pub emits-first : {l l' : Book} {references x : List ℕ} {r : Ran} (kind : ℕ) → Emits l (kind + 0) references x r l' → Emits l kind references x r l'
-emits-first kind h = let z : kind + 0 ≡ kind = omega arith in emits-kind z h
 
 -- A step after one run, from the step of that run.
 pub runs-emit : {l l₁ l₂ : Book} {x : List ℕ} {p : Program} {r c : Ran} {kind i j z : ℕ} → Runs l p r l₁ → done_by r ≡ true → i ≡ step_by r → Emits l₁ kind (i ∷ j ∷ z ∷ []) x c l₂

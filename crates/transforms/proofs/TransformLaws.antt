@@ -4,7 +4,6 @@ use native.Mathlib.Omega.{arith}
 use mathlib.Core.Path.{◌≡◌, refl, sym, ap, ap₂, ◌∙◌, subst as along, subst₂ as along₂}
 use mathlib.Core.List.{List, [], ◌∷◌, ◌++◌}
 use lib.ListN.{length, get_or}
-use borrow.Author.Tests.{lt-ltb, le-ltb}
 use Rattle.formula.specs.declared.Sort.{Sort}
 use Rattle.formula.specs.declared.Sort.TheVariants.{Faces, Intervals}
 use Rattle.operations.specs.declared.Op.{Op as Asked}
@@ -32,7 +31,7 @@ use Rattle.std.specs.Prelude.{Ok, Err}
 use Rattle.steps.specs.declared.Stop.{Stop}
 use Rattle.steps.specs.Running.{Ran, Book, Runs, Emits}
 use Rattle.steps.specs.Trees.{Is, Known, Literal}
-use Rattle.transforms.specs.Transforms.{op_of, KnownOp, transform_bytes, first_kind, kind_gap, transform_kind}
+use Rattle.transforms.specs.Transforms.{op_of, KnownOp, transform_bytes, transform_kind}
 use Rattle.steps.proofs.RunLaws.{emits-by, emits-kind, runs-emit, runs-next, runs-stop, runs-below, runs-more}
 use Rattle.steps.proofs.TreeLaws.{View, a-lit, tree-of}
 use Rattle.steps.proofs.NodeLaws.{Law, AtLit, at-lit, AtOne, AtTwo, AtEnd, at-end, literal-end, end-kind, literal-view, literal-low}
@@ -286,13 +285,6 @@ module _ {f out : List ℕ} {p q : Place} (s : Sort) (o : Asked) (t : List ℕ) 
 
   pub literal-image : {x y : List ℕ} {n : Place} → x ≡ part_at s f p.at → y ≡ span q.at n out → n ≡ behind_at s out q → Is s (transform s (op_of o t) (tree_of s x)) y
   literal-image e i j = along₂ (λ (x y : List ℕ). Is s (transform s (op_of o t) (tree_of s x)) y) (sym e) (sym (between-part g i j)) g.is
-
--- The kind of a byte.
-pub kind-low : (s : Sort) (o : Asked) (b : ℕ) → b < 19 → b + first_kind s o ≡ transform_kind s o b
-kind-low s o b h = rw (lt-ltb b 19 h) refl
-
-pub kind-high : (s : Sort) (o : Asked) (b : ℕ) → 19 ≤ b → b + first_kind s o + kind_gap o ≡ transform_kind s o b
-kind-high s o b h = rw (le-ltb b 19 h) refl
 
 -- What is known of the operation that is told, and the operands.
 pub place-of-shift : (t : List ℕ) (o : Asked) (k : ℕ) → o ≡ DShift k → KnownOp o t → k < 255

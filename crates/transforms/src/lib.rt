@@ -20,13 +20,16 @@ use steps::{Order, Paired, Producer, Ran, Stop};
 // The byte that a dimension begins with.
 const DIMENSION_BYTE: u8 = 18;
 
-// The rules of a dimension, in the order of their kinds: of a shift, below the place and from it on; of a substitution, below the place, at it and above it.
+// The first rule of a dimension: it is below the operation's place.
 const BELOW: usize = 0;
 
+// The second of a shift: it is at the place or above it.
 const SHIFTED: usize = 1;
 
+// The second of a substitution: it is at the place.
 const HIT: usize = 1;
 
+// The third of a substitution: it is above the place.
 const ABOVE: usize = 2;
 
 // Where the kinds of the rules begin.

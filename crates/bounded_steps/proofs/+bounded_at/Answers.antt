@@ -9,10 +9,6 @@ use Rattle.steps.proofs.LentLaws.{kept-of, lent-on}
 use Rattle.bounded_steps.proofs.BelowLaws.{leaf-walks, literal-stops, literal-walks, one-walks-stop, one-walks, two-walks-stop, two-walks-stop-right, two-walks}
 use Rattle.bounded_steps.proofs.+bounded_at.Goals as goal
 
-pub bounded_end-requires : goal.bounded_end-requires
-bounded_end-requires t c = let a = c.args in
-    (kept-of a.p.now, at-spans c.requires.0 (viewed-at a.sort a.f.now a.here c.requires.0 _ _ c.step.ensures c.in-Leaf.is).end, c.requires.1)
-
 pub invariant_of-p : goal.invariant_of-p
 invariant_of-p t c = let a = c.args in
     record { indexed = runs-led (leaf-walks a.sort a.d c.requires.1 c.requires.0 (viewed-at a.sort a.f.now a.here c.requires.0 _ _ c.step.ensures c.in-Leaf.is) c.bounded_end.ensures).runs }
@@ -20,10 +16,6 @@ invariant_of-p t c = let a = c.args in
 pub returns-in-Leaf : goal.returns-in-Leaf
 returns-in-Leaf t c = let a = c.args in
     record { walks = leaf-walks a.sort a.d c.requires.1 c.requires.0 (viewed-at a.sort a.f.now a.here c.requires.0 _ _ c.step.ensures c.in-Leaf.is) c.bounded_end.ensures; lent = record { ledger = refl; index = refl } }
-
-pub between-requires : goal.between-requires
-between-requires t c = let a = c.args in
-    at-spans c.requires.0 (viewed-at a.sort a.f.now a.here c.requires.0 _ _ c.step.ensures c.in-Lit.is).end
 
 pub bounded_literal-requires : goal.bounded_literal-requires
 bounded_literal-requires t c = let a = c.args in

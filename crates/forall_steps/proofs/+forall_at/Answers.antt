@@ -34,11 +34,6 @@ returns-in-Leaf t c = let a = c.args in
 pub over-w-requires-in-Lit : goal.over-w-requires-in-Lit
 over-w-requires-in-Lit t c = known_at c.requires.2
 
-pub between-x-requires : goal.between-x-requires
-between-x-requires t c = let a = c.args in
-    let v = viewed-at Faces a.f.now a.here c.requires.0 _ _ c.step.ensures c.in-Lit.is in
-    at-spans c.requires.0 v.end
-
 pub between-requires : goal.between-requires
 between-requires t c = at-spans c.requires.2 c.over-w-in-Lit.ensures
 

@@ -5,7 +5,7 @@ use Rattle.formula.specs.declared.Sort.TheVariants.{Faces}
 use Rattle.formula.specs.Answers.{tree_of}
 use Rattle.steps.proofs.RunLaws.{runs-led}
 use Rattle.steps.proofs.TreeLaws.{is-long, is-short}
-use Rattle.steps.proofs.NodeLaws.{literal-end, literal-view, literal-low}
+use Rattle.steps.proofs.NodeLaws.{literal-end, literal-view}
 use Rattle.steps.proofs.CompareLaws.{above}
 use Rattle.steps.proofs.LentLaws.{kept-of, lent-on}
 use Rattle.forall_steps.proofs.ForallLaws.{forall-is, foralls-limited, foralls-bytes, literal-hit, literal-below-stop, literal-below, literal-above-stop, literal-above}
@@ -23,10 +23,6 @@ pub returns-then-n-k : goal.returns-then-n-k
 returns-then-n-k c = let a = c.args in
     record { runs = literal-hit a.k (tree_of Faces a.f.now) (literal-end (tree_of Faces a.f.now) (literal-view c.requires.0 c.requires.2)) c.if-n-k.true (foralls-limited a.k c.requires.0 c.requires.3 c.requires.1) (foralls-bytes a.k c.requires.0 c.requires.3) c.forall_whole.ensures; lent = (record { ledger = refl; index = refl }) }
 
-pub comparison-requires : goal.comparison-requires
-comparison-requires c = let a = c.args in
-    (omega (arith, literal-low (tree_of Faces a.f.now) (literal-view c.requires.0 c.requires.2) c.requires.0), omega (arith, c.requires.1))
-
 pub returns-in_err-i : goal.returns-in_err-i
 returns-in_err-i c = let a = c.args in
     let p = err_from_is_err_and c.from_residual.result c.from_residual.ensures.1 in
@@ -43,10 +39,6 @@ invariant_of-p-then-n-k-2 c = let a = c.args in
 pub returns-then-n-k-2 : goal.returns-then-n-k-2
 returns-then-n-k-2 c = let a = c.args in
     record { runs = literal-below a.k (tree_of Faces a.f.now) (literal-end (tree_of Faces a.f.now) (literal-view c.requires.0 c.requires.2)) c.if-n-k-2.true (foralls-limited a.k c.requires.0 c.requires.3 c.requires.1) (foralls-bytes a.k c.requires.0 c.requires.3) c.in_ok-i.ensures.runs c.forall_whole-then-n-k-2.ensures; lent = lent-on c.in_ok-i.ensures.lent (record { ledger = refl; index = refl }) }
-
-pub comparison-requires-2 : goal.comparison-requires-2
-comparison-requires-2 c = let a = c.args in
-    (omega (arith, c.requires.1), omega (arith, literal-low (tree_of Faces a.f.now) (literal-view c.requires.0 c.requires.2) c.requires.0))
 
 pub returns-in_err-i-2 : goal.returns-in_err-i-2
 returns-in_err-i-2 c = let a = c.args in

@@ -12,14 +12,10 @@ use Rattle.calculus.specs.Calls.{less, at_most, emit_comparison}
 use Rattle.formula.specs.Answers.{tree_of}
 use Rattle.steps.proofs.RunLaws.{runs-led}
 use Rattle.steps.proofs.TreeLaws.{is-long, is-short}
-use Rattle.steps.proofs.NodeLaws.{literal-view, literal-low}
+use Rattle.steps.proofs.NodeLaws.{literal-view}
 use Rattle.transforms.proofs.TransformLaws.{transforms-limited, transforms-bytes, literal-dim, dim-stop, dim-runs, shift-below, shift-program, shift-above}
 use Rattle.steps.proofs.LentLaws.{kept-of, lent-on}
 use Rattle.transforms.proofs.shift_dimension.Goals as goal
-
-pub comparison-requires : goal.comparison-requires
-comparison-requires c = let a = c.args in
-    (omega (arith, literal-low (tree_of Intervals a.f.now) (literal-view c.requires.0 c.requires.2) c.requires.0), omega (arith, c.requires.1))
 
 pub returns-in_err-i : goal.returns-in_err-i
 returns-in_err-i c = let a = c.args in
@@ -37,10 +33,6 @@ invariant_of-p c = let a = c.args in
 pub returns-then-n-k : goal.returns-then-n-k
 returns-then-n-k c = let a = c.args in
     record { runs = dim-runs 0 (DShift a.k) (shift a.k) Ordering.lt (emit_comparison less a.n a.k) 51 (lt a.n a.k) (compare-lt a.n a.k c.if-n-k.true) refl (shift-below a.k a.n c.if-n-k.true) refl (tree_of Intervals a.f.now) (literal-dim (tree_of Intervals a.f.now) (literal-view c.requires.0 c.requires.2)) (transforms-limited a.f.now Intervals (DShift a.k) c.requires.1 c.requires.0 c.requires.3) (transforms-bytes a.f.now Intervals (DShift a.k) c.requires.1 c.requires.0 c.requires.3) c.in_ok-i.ensures.runs c.dimension_whole.ensures; lent = lent-on c.in_ok-i.ensures.lent (record { ledger = refl; index = refl }) }
-
-pub comparison-requires-2 : goal.comparison-requires-2
-comparison-requires-2 c = let a = c.args in
-    (omega (arith, c.requires.1), omega (arith, literal-low (tree_of Intervals a.f.now) (literal-view c.requires.0 c.requires.2) c.requires.0))
 
 pub returns-in_err-i-2 : goal.returns-in_err-i-2
 returns-in_err-i-2 c = let a = c.args in

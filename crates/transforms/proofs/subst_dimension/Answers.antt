@@ -11,7 +11,7 @@ use Rattle.calculus.specs.Calls.{less, emit_comparison}
 use Rattle.formula.specs.Answers.{tree_of}
 use Rattle.steps.proofs.RunLaws.{runs-led}
 use Rattle.steps.proofs.TreeLaws.{is-long, is-short}
-use Rattle.steps.proofs.NodeLaws.{literal-view, literal-low}
+use Rattle.steps.proofs.NodeLaws.{literal-view}
 use Rattle.steps.proofs.CompareLaws.{above}
 use Rattle.transforms.proofs.TransformLaws.{transforms-limited, transforms-bytes, literal-dim, dim-hit, dim-stop, dim-runs, subst-below, subst-above}
 use Rattle.steps.proofs.LentLaws.{kept-of, lent-on}
@@ -29,10 +29,6 @@ pub returns-then-n-k : goal.returns-then-n-k
 returns-then-n-k c = let a = c.args in
     record { runs = dim-hit a.k (tree_of Intervals a.t.now) (tree_of Intervals a.f.now) c.if-n-k.true (literal-dim (tree_of Intervals a.f.now) (literal-view c.requires.0 c.requires.2)) (transforms-limited a.t.now Intervals (DSubst a.k) c.requires.1 c.requires.0 c.requires.3) (transforms-bytes a.t.now Intervals (DSubst a.k) c.requires.1 c.requires.0 c.requires.3) c.dimension_whole.ensures; lent = (record { ledger = refl; index = refl }) }
 
-pub comparison-requires : goal.comparison-requires
-comparison-requires c = let a = c.args in
-    (omega (arith, literal-low (tree_of Intervals a.f.now) (literal-view c.requires.0 c.requires.2) c.requires.0), omega (arith, c.requires.1.0))
-
 pub returns-in_err-i : goal.returns-in_err-i
 returns-in_err-i c = let a = c.args in
     let p = err_from_is_err_and c.from_residual.result c.from_residual.ensures.1 in
@@ -49,10 +45,6 @@ invariant_of-p-then-n-k-2 c = let a = c.args in
 pub returns-then-n-k-2 : goal.returns-then-n-k-2
 returns-then-n-k-2 c = let a = c.args in
     record { runs = dim-runs 0 (DSubst a.k) (subst a.k (tree_of Intervals a.t.now)) Ordering.lt (emit_comparison less a.n a.k) 58 (lt a.n a.k) (compare-lt a.n a.k c.if-n-k-2.true) refl (subst-below a.k a.n (tree_of Intervals a.t.now) c.if-n-k-2.true) refl (tree_of Intervals a.f.now) (literal-dim (tree_of Intervals a.f.now) (literal-view c.requires.0 c.requires.2)) (transforms-limited a.t.now Intervals (DSubst a.k) c.requires.1 c.requires.0 c.requires.3) (transforms-bytes a.t.now Intervals (DSubst a.k) c.requires.1 c.requires.0 c.requires.3) c.in_ok-i.ensures.runs c.dimension_whole-then-n-k-2.ensures; lent = lent-on c.in_ok-i.ensures.lent (record { ledger = refl; index = refl }) }
-
-pub comparison-requires-2 : goal.comparison-requires-2
-comparison-requires-2 c = let a = c.args in
-    (omega (arith, c.requires.1.0), omega (arith, literal-low (tree_of Intervals a.f.now) (literal-view c.requires.0 c.requires.2) c.requires.0))
 
 pub returns-in_err-i-2 : goal.returns-in_err-i-2
 returns-in_err-i-2 c = let a = c.args in
