@@ -1,9 +1,9 @@
 -- The pass over the steps of a ledger: what is known before each of them, and what the verdict is.
-use mathlib.Core.Path.{◌≡◌, refl, sym, ap, ◌∙◌, subst}
-use mathlib.Core.Bool.{Bool, true, false}
+use mathlib.Core.Path.{◌≡◌, refl, ap, ◌∙◌, subst}
+use mathlib.Core.Bool.{Bool, false}
 use mathlib.Core.Option.{Option, none, some}
 use mathlib.Core.List.{List}
-use Prim.Native.Nat.{ℕ, suc, ◌*◌, ◌≤◌, ◌<◌}
+use Prim.Native.Nat.{ℕ, ◌*◌, ◌≤◌, ◌<◌}
 use native.Mathlib.Omega.{arith}
 use lib.ListN.{length}
 use Rattle.calculus.specs.Judgement.{Step}
@@ -11,13 +11,13 @@ use Rattle.calculus.specs.Rules.{step_at, Follows, pass, fail, passes, fails}
 use Rattle.calculus.specs.Parse.{read_ledger}
 use Rattle.calculus.specs.Desk.{DeskAnswer, unreadable, judged, no-ledger, on-steps, DeskGives}
 use Rattle.calculus.proofs.Records.{read-ledger}
-use Rattle.calculus.proofs.Desk.{Up, one_more}
+use Rattle.calculus.proofs.Desk.{Up}
 use Rattle.refusals.specs.declared.Refusal.{Refusal}
 use Rattle.std.specs.Prelude.{Err}
 use Rattle.ledger.specs.Checks.{step_count}
-use Rattle.ledger.specs.Ledger.{steps_of, place_of, Led, Points}
-use Rattle.ledger.specs.Noting.{Noted, Notes}
-use Rattle.ledger.proofs.PointLaws.{Walks, walks-start, walks_next}
+use Rattle.ledger.specs.Ledger.{steps_of, Led, Points}
+use Rattle.ledger.specs.Noting.{Noted}
+use Rattle.ledger.proofs.PointLaws.{Walks, walks-start}
 use Rattle.ledger.proofs.NotingLaws.{noted-none, few-steps, low-place}
 use Rattle.rules.specs.Standing.{Decides}
 use Rattle.desk.specs.Verdicts.{answer_as, in_document, said, Answers}
@@ -40,17 +40,6 @@ module _ {l : List ℕ} {step at : ℕ} {places : List ℕ} (g : Passing l step 
 
   pub passing-room : step < length (steps_of l) → (step < 16 * length places) × (at < 4294967296)
   passing-room b = (omega (arith, few-steps (passing-points b), g.size), low-place (passing-points b))
-
-  pub passing-on : {step' at' : ℕ} {places' : List ℕ} (r : Bool) → step < length (steps_of l) → r ≡ true → Decides r (Follows (steps_of l) step (step_at (steps_of l) step)) → Notes step at places places'
-      → (step' ≡ suc step) × (at' ≡ place_of (steps_of l) (suc step)) → Passing l step' at' places'
-  passing-on {places'} r b e d n m =
-      let f : Follows (steps_of l) step (step_at (steps_of l) step) = subst (λ (t : Bool). Decides t (Follows (steps_of l) step (step_at (steps_of l) step))) e d in
-      record {
-        walks = walks_next (passing-points b) m;
-        size = n.long ∙ g.size;
-        noted = subst (λ (k : ℕ). Noted (steps_of l) k places') (sym m.0) (n.more (steps_of l) g.walks.place g.noted);
-        up = subst (Up (steps_of l)) (sym m.0) (one_more step g.up f);
-      }
 
   pub passing-fails : (r : Bool) → step < length (steps_of l) → r ≡ false → Decides r (Follows (steps_of l) step (step_at (steps_of l) step)) → DeskGives answer_as l (Fails step)
   passing-fails r b e d =

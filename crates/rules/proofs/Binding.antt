@@ -1,21 +1,15 @@
 -- What the variables are bound to: what a store leaves, and what a comparison says.
-use mathlib.Core.Path.{◌≡◌, refl, sym, ap, ◌∙◌, subst}
-use mathlib.Core.Bool.{Bool, true, false}
+use mathlib.Core.Path.{◌≡◌, refl, sym, ◌∙◌, subst}
 use mathlib.Core.List.{List}
 use Prim.Native.Nat.{ℕ, ◌+◌, ◌-◌, ◌≤◌, ◌<◌}
 use native.Mathlib.Omega.{arith}
 use native.Mathlib.Decide.{ℕ_discrete}
-use borrow.Author.Tests.{lt-ltb, le-ltb, eq-eqb, ne_eqb, eqb-true}
-use lib.Dec.{eqb}
-use lib.ListN.{length, get_or, set, length-set}
-use lib.Seq.{get_or-set_same, get_or-set_other}
-use Rattle.std.specs.Prelude.{None, Some}
+use borrow.Author.Tests.{lt-ltb, le-ltb, eq-eqb, ne_eqb}
+use lib.ListN.{get_or}
+use Rattle.std.specs.Prelude.{None}
 use Rattle.calculus.proofs.Rows.{Env, put}
-use Rattle.rows.specs.Flattening.{part}
-use Rattle.rules.specs.Standing.{Decides}
-use Rattle.rules.specs.declared.slots.Span.{Span}
 use Rattle.rules.specs.declared.slots.Bindings.{Bindings}
-use Rattle.rules.specs.Matching.{bytes_of, Held, num, bytes, held_in, PartKnown, NumberKnown, Agrees, Binds}
+use Rattle.rules.specs.Matching.{bytes_of, Held, num, bytes, held_in, PartKnown, NumberKnown, Agrees}
 
 -- A function with one value changed.
 module _ {A : Type 0} (u : ℕ) (x : A) (f : ℕ → A) where

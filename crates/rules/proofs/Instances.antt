@@ -11,13 +11,11 @@ use Rattle.formula.specs.Formula.{lo, hi, Face}
 use Rattle.formula.specs.Bytes.{dim_bytes, encode_face, encode_interval, Got, got, then}
 use Rattle.formula.proofs.Reading.{got-value, encode-pos, read-encode, encode-prefix}
 use Rattle.calculus.specs.Judgement.{Judgement}
-use Rattle.calculus.specs.Rules.{Rule}
 use Rattle.calculus.specs.Table.{predicate}
 use Rattle.calculus.specs.Search.{nodes_context}
 use Rattle.calculus.specs.Record
 use Rattle.calculus.specs.Record.{little_endian, Field, Value, Values, faces_bytes, field_bytes, fields, operands, values_bytes, operand_bytes, allowed, all_allowed}
 use Rattle.calculus.specs.Parse.{read_faces, read_field, judgement_of}
-use Rattle.calculus.proofs.Tables.{rule-listed, listed-range}
 use Rattle.calculus.proofs.Fields.{read-little, read-faces, faces-nodes, values-front, rebuilt}
 use Rattle.calculus.proofs.Rows.{NumP, nz, nv, ns, FaceP, fv, Ff, Ft, At, And, Or, IntP, iv, I0, I1, Dim, Neg, Meet, Join, CtxP, cv, Nil, ◌◂◌, JudP, Lt, Le, Int, Fac, Mem, Tak, Cov, Ent, Bnd, Loc, All, Ish, Isu, Fsh, Fsu, Env, inst_n, inst_f, inst_i, inst_c, inst, conclusion, premises, row_at, Instance, instance-rule, rule-instance}
 use Rattle.kinds.specs.Kinds.{number_of, predicate_of}
@@ -392,10 +390,3 @@ module _ (l : List ℕ) where
   kind-judged kind cs r b h d =
       let e : suc (kind - 1) ≡ kind = omega arith in
       subst (λ (k : ℕ). Ruled l k cs r) e (row-judged (kind - 1) cs r (omega arith) d)
-
--- No rule has another number.
-pub no_kind : (k : ℕ) {js : List Judgement} {j : Judgement} → (k ≡ 0) → Rule k js j → ⊥
-no_kind k e r = omega (arith, (listed-range (rule-listed r)).0)
-
-pub high-kind : (k : ℕ) {js : List Judgement} {j : Judgement} → 75 < k → Rule k js j → ⊥
-high-kind k e r = omega (arith, (listed-range (rule-listed r)).1)

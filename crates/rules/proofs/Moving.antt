@@ -20,12 +20,12 @@ use Rattle.calculus.specs.Parse.{read_faces}
 use Rattle.calculus.proofs.Fields.{read-faces}
 use Rattle.calculus.proofs.Rows.{Env, put, bind_n}
 use Rattle.rows.specs.declared.Token.{Token}
-use Rattle.rows.specs.declared.Token.TheVariants.{Byte as byte, Number as number, Slot as slot, Front as front, Done as done, Pad as pad}
+use Rattle.rows.specs.declared.Token.TheVariants.{Byte as byte, Number as number, Slot as slot, Front as front}
 use Rattle.rows.specs.Flattening.{part}
 use Rattle.rules.specs.declared.State.{State}
 use Rattle.rules.specs.declared.slots.Bindings.{Bindings}
 use Rattle.rules.specs.Matching.{bytes_of, Thing, a-face, an-interval, some-faces, Consumes, Held, num, bytes, held_in, Binds, Ends, Formula, Faces, Moves, MovesOnly}
-use Rattle.rules.proofs.Parts.{part_none, part_join, part_length, part-cons, part-split}
+use Rattle.rules.proofs.Parts.{part_none, part_join, part-cons, part-split}
 use Rattle.rules.proofs.Binding.{put_same, put_other, put_as, agrees-as, held_bytes, held_number}
 
 -- A token that binds a slot -----------------------------------------------------------------
@@ -111,10 +111,6 @@ module _ (k v : ℕ) (q : State) (l : List ℕ) where
 
     pub number-no : r ≡ false → Binds l m (v + 24) (num (d - k)) r m' → Moves (number k v) q l m None m'
     number-no f g = rw f at (number-moves g)
-
-  -- A field that is not there, or is too low.
-  pub number-none : q.at ≤ q.end → q.end ≤ length l → q.end - q.at < dim_width → (m : Bindings) → Moves (number k v) q l m None m
-  number-none o i h m = λ E n s g st. omega (arith, part_length l q.at q.end i, simp length-append at (ap length st.0))
 
   pub number-low : q.at + dim_width ≤ q.end → q.end ≤ length l → dim_at l q.at < k → (m : Bindings) → Moves (number k v) q l m None m
   number-low h i j m = λ E n s g st. omega (arith, (dim-prefix k v q.at q.end q.left l (dim_at l q.at) (k + E.num v) (part l (q.at + dim_width) q.end) s (sym (dim-part k v q.at q.end q.left l h i) ∙ st.0)).0)
@@ -343,9 +339,6 @@ plain-moves : (t : Token) (q : State) (l : List ℕ) (a h : ℕ) → a ≤ q.end
 plain-moves t q l a h w f b m = record { kept = (refl, refl); within = w; forth = λ E n s g st. (g, (f E n s st).0, (f E n s st).1); back = λ E g. (g, b E); possible = λ p. p }
 
 module _ (q : State) (l : List ℕ) (o : q.at ≤ q.end) (i : q.end ≤ length l) where
-  pub byte-none : (b : ℕ) → q.end ≤ q.at → MovesOnly (byte b) q l None
-  byte-none b h m = λ E n s g st. omega (arith, part_length l q.at q.end i, ap length st.0)
-
   pub byte-no : (b x : ℕ) → q.at < q.end → x ≡ get_or l q.at 0 → (x ≡ b → ⊥) → MovesOnly (byte b) q l None
   byte-no b x h e d m = λ E n s g st. d (e ∙ head-eq_of_cons-eq (sym (part-cons l q.at q.end 0 h i) ∙ st.0))
 
@@ -354,19 +347,7 @@ module _ (q : State) (l : List ℕ) (o : q.at ≤ q.end) (i : q.end ≤ length l
       (λ E n s st. (st.1, sym (tail-eq_of_cons-eq (sym (part-cons l q.at q.end 0 h i) ∙ st.0))))
       (λ E. (part-cons l q.at q.end 0 h i ∙ ap (λ (z : ℕ). z ∷ part l (q.at + 1) q.end) (sym e ∙ d), refl))
 
-  pub done-no : (q.left ≡ 0 → ⊥) → MovesOnly done q l None
-  done-no d m = λ E n s g st. d st.2
-
-  pub done-yes : q.left ≡ 0 → MovesOnly done q l (Some (moved q q.at q.left))
-  done-yes d = plain-moves done q l q.at q.left o (λ E n s st. (st.1, sym st.0)) (λ E. (refl, refl, d))
-
-  pub pad-yes : MovesOnly pad q l (Some (moved q q.at q.left))
-  pad-yes = plain-moves pad q l q.at q.left o (λ E n s st. (st.1, sym st.0)) (λ E. (refl, refl))
-
   module _ (k : ℕ) where
-    pub count_none : q.end - q.at < 2 → MovesOnly (front k) q l None
-    count_none h m = λ E n s g st. omega (arith, part_length l q.at q.end i, ap length st.0)
-
     module _ (x y : ℕ) (h : 2 ≤ q.end - q.at) (e : x ≡ get_or l q.at 0) (f : y ≡ get_or l (q.at + 1) 0) (xb : x < 256) (yb : y < 256) where
       two : part l q.at q.end ≡ x ∷ y ∷ part l (q.at + 2) q.end
       two =

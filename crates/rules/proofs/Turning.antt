@@ -1,7 +1,7 @@
 -- A row's items one by one: the code's turn is the only one, and the loops say whether all of them fit.
 use mathlib.Core.Path.{◌≡◌, refl, sym, ap, ◌∙◌}
 use mathlib.Core.Bool.{Bool, true, false}
-use mathlib.Core.List.{List, [], ◌∷◌, ◌++◌, append-nil, append_assoc, head-eq_of_cons-eq, tail-eq_of_cons-eq}
+use mathlib.Core.List.{List, [], ◌∷◌, ◌++◌, append-nil, append_assoc}
 use Prim.Native.Nat.{ℕ, zero, suc, ◌+◌, ◌≤◌, ◌<◌}
 use native.Mathlib.Omega.{arith}
 use native.Mathlib.Numerals.{add-one}
@@ -13,20 +13,14 @@ use Rattle.std.specs.Prelude.{Option, None, Some}
 use Rattle.calculus.proofs.Rows.{Env}
 use Rattle.rows.specs.declared.Token.{Token}
 use Rattle.rows.specs.declared.Item.{Item}
-use Rattle.rows.specs.declared.Item.TheVariants.{Claim as claim, Inside as inside}
+use Rattle.rows.specs.declared.Item.TheVariants.{Inside as inside}
 use Rattle.rows.specs.Flattening.{part, joined, blank}
-use Rattle.rules.specs.Standing.{Lies, Decides}
+use Rattle.rules.specs.Standing.{Decides}
 use Rattle.rules.specs.declared.Claim.{Claim}
 use Rattle.rules.specs.declared.State.{State}
 use Rattle.rules.specs.declared.slots.Bindings.{Bindings}
-use Rattle.rules.specs.Matching.{Spoken, claimed, Fits, over, turn, spoken_by, spoken, Matched, held_in, Agrees, Free, Moves, Placed, Turns, Begins, FitsAt, Passes}
+use Rattle.rules.specs.Matching.{Spoken, Fits, over, turn, spoken_by, spoken, Matched, held_in, Agrees, Free, Moves, Placed, Turns, FitsAt, Passes}
 use Rattle.rules.proofs.Parts.{part_none, part_length}
-
-claimed-number : {p q : ℕ} {x y : List ℕ} → claimed p x ≡ claimed q y → p ≡ q
-claimed-number e = cc
-
-claimed-bytes : {p q : ℕ} {x y : List ℕ} → claimed p x ≡ claimed q y → x ≡ y
-claimed-bytes e = cc
 
 none-some : {A B : Type 0} {x : A} {l : List A} → ◌≡◌ {A = List A} [] (x ∷ l) → B
 none-some e = absurd (let z : ◌≡◌ {A = ℕ} 0 1 = cc in omega arith)
@@ -51,25 +45,6 @@ module _ (l : List ℕ) (cs : List Claim) where
   module _ (q : State) (v : Placed l cs q) where
     ended : part l q.at q.end ≡ [] → q.at ≡ q.end
     ended e = omega (arith, v.ordered, v.within, part_length l q.at q.end v.within, ap length e)
-
-    module _ (p : ℕ) where
-      pub judge-more : (q.at ≡ q.end → ⊥) → Begins (claim p) q l cs None
-      judge-more d m = λ E k s ds g t. d (ended t.0)
-
-      pub judge-none : length cs ≤ q.j → Begins (claim p) q l cs None
-      judge-none h m = λ E k s ds g t. none-some (sym (spoken-over q.j h) ∙ t.2)
-
-      pub judge-no : (d : Claim) → q.j < length cs → ((get_or cs q.j d).predicate ≡ p → ⊥) → Begins (claim p) q l cs None
-      judge-no d h n m = λ E k s ds g t. n (claimed-number (head-eq_of_cons-eq (sym (spoken-next q.j d h) ∙ t.2)))
-
-      pub judge-yes : (d : Claim) → Lies l cs → q.at ≡ q.end → q.j < length cs → (get_or cs q.j d).predicate ≡ p
-          → Begins (claim p) q l cs (Some (record { at = (get_or cs q.j d).from; end = (get_or cs q.j d).to; left = 0; j = q.j + 1 }))
-      judge-yes d z e h n m = record {
-        placed = record { ordered = (z q.j d h).0; within = (z q.j d h).1; among = omega arith };
-        forth = λ E k s ds g t. let c = sym (spoken-next q.j d h) ∙ t.2 in (g, t.1, sym (claimed-bytes (head-eq_of_cons-eq c)), sym (tail-eq_of_cons-eq c));
-        back = λ E g. (g, (ap (λ (a : ℕ). part l a q.end) e ∙ part_none l q.end, refl, spoken-next q.j d h ∙ ap (λ (a : ℕ). claimed a (part l (get_or cs q.j d).from (get_or cs q.j d).to) ∷ spoken l (drop (q.j + 1) cs)) n));
-        possible = λ p. p;
-      }
 
     -- A token of the present judgement.
     pub token-turns : (t : Token) (m m' : Bindings) (r : Option State) → Moves t q l m r m' → Turns (inside t) q l cs m r m'
