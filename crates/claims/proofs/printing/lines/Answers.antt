@@ -1,9 +1,9 @@
-use Rattle.std.proofs.Common.{refl, ◌∙◌}
+use Rattle.std.proofs.Common.{refl, ◌∙◌, arith}
 use Rattle.claims.proofs.PrintLaws.{listing-begin, listing-points, listing-shows, listing-next, listing-all, listing-less, lines-writes}
 use Rattle.claims.proofs.printing.lines.Goals as goal
 
 pub loop-c-init : goal.loop-c-init
-loop-c-init c = (c.used-end.ensures, listing-begin c.requires.0 c.start-c.ensures.0 c.start-c.ensures.1 c.requires.1, refl)
+loop-c-init c = (c.used-end.ensures, listing-begin c.requires.0 (omega arith) (omega arith) c.requires.1, refl)
 
 pub line-requires : goal.line-requires
 line-requires c = listing-shows c.loop-c.invariant.1 c.loop-c.invariant.0 c.loop-c-test.true
