@@ -156,13 +156,7 @@ fn put<W: Write>(out: &mut W, a: &[u8], lent: &mut [u8], at: usize) -> io::Resul
 }
 
 // What is answered, with lent slices of as many bytes as the case says.
-fn answer<W: Write>(
-    out: &mut W,
-    c: Case,
-    a: &[u8],
-    b: &[u8],
-    space: &mut [u8],
-) -> io::Result<()> {
+fn answer<W: Write>(out: &mut W, c: Case, a: &[u8], b: &[u8], space: &mut [u8]) -> io::Result<()> {
     let mut room = [255u8; 64];
     let lent = stdio::part(&mut room, c.room);
     let n = c.number;
