@@ -1,4 +1,6 @@
 -- Answers as one number: they fit, and they are those of the calculus' replies.
+use Rattle.std.specs.Prelude.{Result, Ok, Err}
+use Rattle.refusals.specs.declared.Refusal.{Refusal}
 use mathlib.Core.Path.{◌≡◌, refl, sym, ap, ◌∙◌, subst}
 use mathlib.Core.Option.{Option, none, some}
 use mathlib.Core.List.{List, [], ◌∷◌, map}
@@ -31,14 +33,11 @@ use Rattle.desk.specs.declared.Verdict.{Verdict}
 use Rattle.desk.proofs.Verdicts.{fails-lowest}
 use Rattle.replies.specs.declared.Made.{Made}
 use Rattle.replies.specs.Replying.{said_one, said_both, Replies}
-use Rattle.refusals.specs.Refusals
 use Rattle.text.specs.Reading.{Claimed, read_claim}
-use Rattle.text.specs.Answers.{Delivered, said_length, Lengths, BothDelivered, both_delivered, said_claim, ReadsClaim}
-use Rattle.text.specs.declared.Length.{Length}
+use Rattle.text.specs.Answers.{Delivered, BothDelivered, both_delivered, ReadsClaim}
 use Rattle.text.specs.declared.Claim.{Claim}
 use Rattle.grammar.proofs.Accepting.{ClaimWithin, claim-read}
 use Rattle.numbers.specs.Answers.{desk_number, reply_number, count_number, claim_number, Reads, ReadsBoth, Numbers, Exhibits}
-use Rattle.refusals.specs.declared.Counted.{Counted}
 use Rattle.counterexample.specs.Answers.{Told, Shows}
 use Rattle.numbers.specs.Packing.{Packs, ClaimFits, Low, verdict_number}
 
@@ -87,12 +86,12 @@ answer-fits {c} {l} b h {n} {ms} e = go (read_ledger l) refl
         let o = k.own n ms is in
         (step-low k.holds o.2.inside, passage-short (passage c l L i) is)
 
-module _ {c : Call} {l l' : List ℕ} {a : Made} {outs : List (List ℕ)} (b : AllBelow 256 l) where
+module _ {c : Call} {l l' : List ℕ} {a : Result Made Refusal} {outs : List (List ℕ)} (b : AllBelow 256 l) where
   pub packs-one : Replies c l (said_one a) l' outs → Packs a
-  packs-one h = record { fits = λ n z e. let x = answer-fits b h (ap said_one e) in (omega (arith, x.0), omega (arith, x.1.0)) }
+  packs-one h = record { fits = λ m e. let x = answer-fits b h (ap said_one e) in (omega (arith, x.0), omega (arith, x.1.0)) }
 
   pub packs-both : Replies c l (said_both a) l' outs → Packs a
-  packs-both h = record { fits = λ n z e. let x = answer-fits b h (ap said_both e) in (omega (arith, x.0), omega (arith, x.1.0)) }
+  packs-both h = record { fits = λ m e. let x = answer-fits b h (ap said_both e) in (omega (arith, x.0), omega (arith, x.1.0)) }
 
 -- The step that does not follow is one of the ledger's.
 pub desk-low : (l : List ℕ) → AllBelow 256 l → {v : Verdict} → DeskGives answer_as l v → Low v
@@ -116,44 +115,44 @@ desk-number h e = record { answer = h.answer; says = h.says; given = e ∙ ap ve
 
 -- Readers and writers ------------------------------------------------------------------------------------
 
-pub delivered-number : {d : Delivered} {out' : List ℕ} {r : ℕ} (a : Length) → d ≡ record { answer = said_length a; output = out' } → r ≡ count_number (said_length a) → Reads d r out'
+pub delivered-number : {d : Delivered} {out' : List ℕ} {r : ℕ} (a : Result ℕ Refusal) → d ≡ record { answer = a; output = out' } → r ≡ count_number a → Reads d r out'
 delivered-number a h e = record { numbered = e ∙ ap (λ (x : Delivered). count_number x.answer) (sym h); output = ap (λ (x : Delivered). x.output) (sym h) }
 
-pub claim-number : {l a b a' b' : List ℕ} {c : Claim} {r : ℕ} → ReadsClaim l a b c a' b' → r ≡ claim_number (said_claim c) → ReadsBoth (both_delivered (read_claim l) a b) r a' b'
+pub claim-number : {l a b a' b' : List ℕ} {c : Result Claim Refusal} {r : ℕ} → ReadsClaim l a b c a' b' → r ≡ claim_number c → ReadsBoth (both_delivered (read_claim l) a b) r a' b'
 claim-number h e = record { numbered = e ∙ ap (λ (x : BothDelivered). claim_number x.answer) (sym h.equal); left = ap (λ (x : BothDelivered). x.left) (sym h.equal); right = ap (λ (x : BothDelivered). x.right) (sym h.equal) }
 
 -- A claim within the limits fits into one number.
-record Bounded (n : Lengths) : Type 0 where
-  dimensions : n.dimensions < 65536
+record Bounded (n : Claim) : Type 0 where
+  dimensions : n.d < 65536
   left : n.left < 65536
   right : n.right < 65536
 
-BoundedAnswer : Refusals.Result Lengths → Type 0
-BoundedAnswer (Refusals.done n) = Bounded n
-BoundedAnswer (Refusals.refused e) = Unit {0}
+BoundedAnswer : Result Claim Refusal → Type 0
+BoundedAnswer (Ok n) = Bounded n
+BoundedAnswer (Err e) = Unit {0}
 
 bounded-put : (t : Bool) (c : Claimed) (a b : List ℕ) → ClaimWithin c
-    → BoundedAnswer (pick {A = BothDelivered} t (record { answer = Refusals.done (record { dimensions = c.dimensions; left = length (encode Faces c.left); right = length (encode Faces c.right) }); left = sets a 0 (encode Faces c.left); right = sets b 0 (encode Faces c.right) }) (record { answer = Refusals.refused ShortOutput; left = a; right = b })).answer
+    → BoundedAnswer (pick {A = BothDelivered} t (record { answer = Ok (record { d = c.dimensions; left = length (encode Faces c.left); right = length (encode Faces c.right) }); left = sets a 0 (encode Faces c.left); right = sets b 0 (encode Faces c.right) }) (record { answer = Err ShortOutput; left = a; right = b })).answer
 unfolding BoundedAnswer
 bounded-put true c a b h = record { dimensions = omega (arith, h.0); left = omega (arith, tree-short Faces c.left h.1.0); right = omega (arith, tree-short Faces c.right h.2.0) }
 bounded-put false c a b h = tt
 
-bounded-claim : (l a b : List ℕ) (o : Refusals.Result Claimed) → read_claim l ≡ o → BoundedAnswer (both_delivered o a b).answer
+bounded-claim : (l a b : List ℕ) (o : Result Claimed Refusal) → read_claim l ≡ o → BoundedAnswer (both_delivered o a b).answer
 unfolding BoundedAnswer
-bounded-claim l a b (Refusals.refused e) p = tt
-bounded-claim l a b (Refusals.done c) p = bounded-put (leb (length (encode Faces c.left)) (length a) && leb (length (encode Faces c.right)) (length b)) c a b (claim-read l c p).1
+bounded-claim l a b (Err e) p = tt
+bounded-claim l a b (Ok c) p = bounded-put (leb (length (encode Faces c.left)) (length a) && leb (length (encode Faces c.right)) (length b)) c a b (claim-read l c p).1
 
-pub claim-fits : {l a b a' b' : List ℕ} {r : Claim} → ReadsClaim l a b r a' b' → ClaimFits r
+pub claim-fits : {l a b a' b' : List ℕ} {r : Result Claim Refusal} → ReadsClaim l a b r a' b' → ClaimFits r
 unfolding BoundedAnswer
 claim-fits {l} {a} {b} h =
     record {
-      fits = λ d x y e.
-          let k : BoundedAnswer (Refusals.done (record { dimensions = d; left = x; right = y })) = subst BoundedAnswer (ap (λ (z : BothDelivered). z.answer) h.equal ∙ ap said_claim e) (bounded-claim l a b (read_claim l) refl) in
+      fits = λ x e.
+          let k : BoundedAnswer (Ok x) = subst BoundedAnswer (ap (λ (z : BothDelivered). z.answer) h.equal ∙ e) (bounded-claim l a b (read_claim l) refl) in
           (k.dimensions, k.left, k.right);
     }
 
 -- A counterexample as one number.
-pub shown-number : {d : ℕ} {a b out : List ℕ} {s : Counted} {out' : List ℕ} {r : ℕ} → Shows d a b out s out' → r ≡ count_number (Refusals.said_counted s) → Exhibits d a b out r out'
+pub shown-number : {d : ℕ} {a b out : List ℕ} {s : Result ℕ Refusal} {out' : List ℕ} {r : ℕ} → Shows d a b out s out' → r ≡ count_number s → Exhibits d a b out r out'
 shown-number h e = record {
   found = h.found;
   is = h.is;

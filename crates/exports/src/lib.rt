@@ -1,7 +1,7 @@
 // What C and Rust programs call. Every answer is one number (numbers' specs/Answers): a refusal is negative.
 #![tactic(auto)]
 
-ghost use Rattle.std.specs.Prelude.{◌≡◌, [], ◌∷◌};
+ghost use Rattle.std.specs.Prelude.{◌≡◌, [], ◌∷◌, Ok};
 ghost use Rattle.calculus.specs.Parse.{read_ledger};
 ghost use Rattle.calculus.specs.Door.{reply, face as face_call, interval as interval_call, boundary as boundary_call, endpoint as endpoint_call, forall as forall_call, shift as shift_call, substitute as substitute_call, entails as entails_call};
 ghost use Rattle.calculus.specs.Desk.{DeskGives};
@@ -10,7 +10,7 @@ ghost use Rattle.ledger.specs.Checks.{step_count};
 ghost use Rattle.ledger.specs.Ledger.{steps_of};
 ghost use Rattle.lookup.specs.Lookup.{operands_start, operands_length, kind_of, reference_of};
 ghost use Rattle.formula.specs.Bytes.{encode};
-ghost use Rattle.refusals.specs.Refusals.{done, map};
+ghost use Rattle.refusals.specs.Refusals.{map};
 ghost use Rattle.text.specs.Reading.{read_formula, read_claim};
 ghost use Rattle.text.specs.Answers.{delivered, both_delivered};
 ghost use Rattle.writing.specs.Answers.{written};
@@ -27,7 +27,7 @@ use formula::Sort;
 pub fn lf_well_formed(ledger: &[u8]) -> u64
     ensures { result ≡ count_number (step_count (read_ledger ledger.now)) }
 {
-    numbers::checked(ledger::well_formed(ledger))
+    numbers::counted(ledger::well_formed(ledger))
 }
 
 // How many steps the desk passed, refusal 1, or -(10 + 16 * n) where step n is the lowest that does not follow.
@@ -48,14 +48,14 @@ pub fn lf_repeats(l: &[u8], m: &[u8]) -> u64
 pub fn lf_face(ledger: &mut [u8], d: u64, f: &[u8]) -> u64
     ensures { Numbers (reply (face_call d f.now) ledger.old) result ledger.new [] }
 {
-    numbers::answer(engine::face(ledger, d as usize, f))
+    numbers::counted(engine::face(ledger, d as usize, f))
 }
 
 // The step that all dimensions of the interval r are below d.
 pub fn lf_interval(ledger: &mut [u8], d: u64, r: &[u8]) -> u64
     ensures { Numbers (reply (interval_call d r.now) ledger.old) result ledger.new [] }
 {
-    numbers::answer(engine::interval(ledger, d as usize, r))
+    numbers::counted(engine::interval(ledger, d as usize, r))
 }
 
 // The step of the boundary of the interval r, and its two faces in front of out0 and out1.
@@ -70,7 +70,7 @@ pub fn lf_endpoint(ledger: &mut [u8], d: u64, phi: &[u8], r: &[u8], one: u64) ->
     ensures { Numbers (reply (endpoint_call d phi.now r.now (is_one one)) ledger.old) result ledger.new [] }
 {
     let end = numbers::is_one(one);
-    numbers::answer(engine::endpoint(ledger, d as usize, phi, r, end))
+    numbers::counted(engine::endpoint(ledger, d as usize, phi, r, end))
 }
 
 // The step of ∀k of the face f, and the result in front of out.
@@ -112,21 +112,21 @@ pub fn lf_substitute_interval(ledger: &mut [u8], t: &[u8], k: u64, r: &[u8], out
 pub fn lf_entails(ledger: &mut [u8], d: u64, a: &[u8], b: &[u8]) -> u64
     ensures { Numbers (reply (entails_call d a.now b.now) ledger.old) result ledger.new [] }
 {
-    numbers::answer(engine::entails(ledger, d as usize, a, b))
+    numbers::counted(engine::entails(ledger, d as usize, a, b))
 }
 
 // The face that a text is, in front of the output.
 pub fn lf_read_face(source: &[u8], out: &mut [u8]) -> u64
     ensures { Reads (delivered (map (encode Sort.Faces) (read_formula Sort.Faces source.now)) out.old) result out.new }
 {
-    numbers::length(text::read_formula(Sort::Faces, source, out))
+    numbers::counted(text::read_formula(Sort::Faces, source, out))
 }
 
 // The interval that a text is, in front of the output.
 pub fn lf_read_interval(source: &[u8], out: &mut [u8]) -> u64
     ensures { Reads (delivered (map (encode Sort.Intervals) (read_formula Sort.Intervals source.now)) out.old) result out.new }
 {
-    numbers::length(text::read_formula(Sort::Intervals, source, out))
+    numbers::counted(text::read_formula(Sort::Intervals, source, out))
 }
 
 // The claim that a text is: d, and its faces in front of the outputs.
@@ -140,21 +140,21 @@ pub fn lf_read_claim(source: &[u8], a: &mut [u8], b: &mut [u8]) -> u64
 pub fn lf_write_face(f: &[u8], out: &mut [u8]) -> u64
     ensures { Reads (delivered (written Sort.Faces f.now) out.old) result out.new }
 {
-    numbers::length(writing::write_formula(Sort::Faces, f, out))
+    numbers::counted(writing::write_formula(Sort::Faces, f, out))
 }
 
 // The text of an interval, in front of the output.
 pub fn lf_write_interval(r: &[u8], out: &mut [u8]) -> u64
     ensures { Reads (delivered (written Sort.Intervals r.now) out.old) result out.new }
 {
-    numbers::length(writing::write_formula(Sort::Intervals, r, out))
+    numbers::counted(writing::write_formula(Sort::Intervals, r, out))
 }
 
 // The normal form of a face, in front of the output.
 pub fn lf_normal(f: &[u8], out: &mut [u8]) -> u64
     ensures { Reads (delivered (map (encode Sort.Faces) (normal_of f.now)) out.old) result out.new }
 {
-    numbers::length(normal::length(normal::normal(f, out)))
+    numbers::counted(normal::length(normal::normal(f, out)))
 }
 
 // The least assignment of d dimensions that satisfies the face a and not the face b, a byte each, in front of the output.
@@ -182,7 +182,7 @@ pub fn lf_fence_interval(r: &[u8]) -> u64
 pub fn lf_write_step(ledger: &[u8], step: u64, out: &mut [u8]) -> u64
     ensures { Reads (delivered (line_of (read_ledger ledger.now) step) out.old) result out.new }
 {
-    numbers::length(listing::write_step(ledger, step as usize, out))
+    numbers::counted(listing::write_step(ledger, step as usize, out))
 }
 
 // Where the operands of a step begin in the ledger, and 2^32 times their length; 0 where there is no such step.
@@ -208,14 +208,14 @@ pub fn lf_reference(ledger: &[u8], step: u64, i: u64) -> u64
 
 // The name of the rule of a kind, in front of the output; nothing for a number that is no kind.
 pub fn lf_rule_name(kind: u64, out: &mut [u8]) -> u64
-    ensures { Reads (delivered (done (name_bytes kind)) out.old) result out.new }
+    ensures { Reads (delivered (Ok (name_bytes kind)) out.old) result out.new }
 {
-    numbers::length(lookup::rule_name(kind as usize, out))
+    numbers::counted(lookup::rule_name(kind as usize, out))
 }
 
 // All that the program facesteps prints for an input, in front of the output.
 pub fn lf_facesteps(input: &[u8], out: &mut [u8]) -> u64
-    ensures { Reads (delivered (done (facesteps input.now)) out.old) result out.new }
+    ensures { Reads (delivered (Ok (facesteps input.now)) out.old) result out.new }
 {
-    numbers::length(claims::facesteps(input, out))
+    numbers::counted(claims::facesteps(input, out))
 }

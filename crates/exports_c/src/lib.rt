@@ -1,7 +1,7 @@
 // The C functions of the archive: each is the function of `exports` with its name, with its clauses.
 #![tactic(auto)]
 
-ghost use Rattle.std.specs.Prelude.{◌≡◌, [], ◌∷◌};
+ghost use Rattle.std.specs.Prelude.{◌≡◌, [], ◌∷◌, Ok};
 ghost use Rattle.calculus.specs.Parse.{read_ledger};
 ghost use Rattle.calculus.specs.Door.{reply, face as face_call, interval as interval_call, boundary as boundary_call, endpoint as endpoint_call, forall as forall_call, shift as shift_call, substitute as substitute_call, entails as entails_call};
 ghost use Rattle.calculus.specs.Desk.{DeskGives};
@@ -10,7 +10,7 @@ ghost use Rattle.ledger.specs.Checks.{step_count};
 ghost use Rattle.ledger.specs.Ledger.{steps_of};
 ghost use Rattle.lookup.specs.Lookup.{operands_start, operands_length, kind_of, reference_of};
 ghost use Rattle.formula.specs.Bytes.{encode};
-ghost use Rattle.refusals.specs.Refusals.{done, map};
+ghost use Rattle.refusals.specs.Refusals.{map};
 ghost use Rattle.text.specs.Reading.{read_formula, read_claim};
 ghost use Rattle.text.specs.Answers.{delivered, both_delivered};
 ghost use Rattle.writing.specs.Answers.{written};
@@ -246,7 +246,7 @@ pub extern "C" fn lf_reference(ledger: &[u8], step: u64, i: u64) -> u64
 // The name of the rule of a kind, in front of the output; nothing for a number that is no kind.
 #[unsafe(no_mangle)]
 pub extern "C" fn lf_rule_name(kind: u64, out: &mut [u8]) -> u64
-    ensures { Reads (delivered (done (name_bytes kind)) out.old) result out.new }
+    ensures { Reads (delivered (Ok (name_bytes kind)) out.old) result out.new }
 {
     exports::lf_rule_name(kind, out)
 }
@@ -254,7 +254,7 @@ pub extern "C" fn lf_rule_name(kind: u64, out: &mut [u8]) -> u64
 // All that the program facesteps prints for an input, in front of the output.
 #[unsafe(no_mangle)]
 pub extern "C" fn lf_facesteps(input: &[u8], out: &mut [u8]) -> u64
-    ensures { Reads (delivered (done (facesteps input.now)) out.old) result out.new }
+    ensures { Reads (delivered (Ok (facesteps input.now)) out.old) result out.new }
 {
     exports::lf_facesteps(input, out)
 }

@@ -79,12 +79,6 @@ module _ (p : ℕ) (x : List ℕ) where
           ap (λ (t : Bool). down p x L i (pick t (Some i) r)) (other-bucket H L i (eqb-false (bucket_at H L i) (bucket_of H p x) h))
           ∙ f
 
-  -- One turn of a walk down the chain of a bucket.
-  pub down_turn : (H : ℕ) (L : List Step) (s : ℕ) (r r' : Found ℕ) → r' ≡ pick (same_step p x (step_at L s)) (Some s) r
-      → down p x L (suc s) r ≡ down p x L (last H L (bucket_of H p x) s) r'
-  unfolding down
-  down_turn H L s r r' e = ap (down p x L s) (sym e) ∙ down-skip H L s r'
-
   pub down-end : (L : List Step) (r : Found ℕ) → down p x L 0 r ≡ r
   unfolding down
   down-end L r = refl

@@ -1,14 +1,15 @@
 -- Answers as one number: a signed 64-bit number that is negative where the call is refused.
-use Rattle.std.specs.Prelude.{◌≡◌, Bool, true, false, List, [], ◌∷◌, ℕ, zero, suc, ◌+◌, ◌*◌, ◌-◌}
+use Rattle.std.specs.Prelude.{◌≡◌, Bool, true, false, List, [], ◌∷◌, ℕ, zero, suc, ◌+◌, ◌*◌, ◌-◌, Result, Ok, Err}
 use Rattle.std.proofs.Math.Option.{Option}
 use Rattle.calculus.specs.Rules.{pass, fail}
 use Rattle.refusals.specs.declared.Refusal.TheVariants.{IllFormedLedger, DoesNotFollow}
-use Rattle.refusals.specs.Refusals
-use Rattle.refusals.specs.Refusals.{number, Result, done}
+use Rattle.refusals.specs.declared.Refusal.{Refusal}
+use Rattle.refusals.specs.Refusals.{number}
 use Rattle.calculus.specs.Door
 use Rattle.calculus.specs.Door.{answered, Reply}
 use Rattle.calculus.specs.Desk.{DeskAnswer, unreadable, judged}
-use Rattle.text.specs.Answers.{Delivered, Lengths, BothDelivered}
+use Rattle.text.specs.declared.Claim.{Claim}
+use Rattle.text.specs.Answers.{Delivered, BothDelivered}
 use Rattle.counterexample.specs.Answers.{asked, Found, put}
 
 -- Refusal n is the bits of -n.
@@ -28,20 +29,20 @@ reply_number (answered n (m ∷ ms)) = n + 4294967296 * m.bytes
 reply_number (Door.refused e) = refused (number e)
 
 -- A number of steps, bytes, dimensions or nodes, or the refusal.
-abbrev pub count_number : Result ℕ → ℕ
-count_number (done n) = n
-count_number (Refusals.refused e) = refused (number e)
+abbrev pub count_number : Result ℕ Refusal → ℕ
+count_number (Ok n) = n
+count_number (Err e) = refused (number e)
 
 -- d, 2^16 times the bytes of the first face and 2^32 times those of the second, or the refusal.
-abbrev pub claim_number : Result Lengths → ℕ
-claim_number (done c) = c.dimensions + 65536 * c.left + 4294967296 * c.right
-claim_number (Refusals.refused e) = refused (number e)
+abbrev pub claim_number : Result Claim Refusal → ℕ
+claim_number (Ok c) = c.d + 65536 * c.left + 4294967296 * c.right
+claim_number (Err e) = refused (number e)
 
 -- 1 where the ledgers repeat each other, 0 where not, or the refusal.
-abbrev pub repeat_number : Result Bool → ℕ
-repeat_number (done true) = 1
-repeat_number (done false) = 0
-repeat_number (Refusals.refused e) = refused (number e)
+abbrev pub repeat_number : Result Bool Refusal → ℕ
+repeat_number (Ok true) = 1
+repeat_number (Ok false) = 0
+repeat_number (Err e) = refused (number e)
 
 -- Where a part of a ledger begins, and 2^32 times how many bytes it has.
 abbrev pub part_number : ℕ → ℕ → ℕ
@@ -59,7 +60,7 @@ pub record ReadsBoth (x : BothDelivered) (r : ℕ) (a' b' : List ℕ) : Type 0 w
 
 -- The number of a counterexample, and every byte of its output, are those of what there is for the two faces.
 pub record Exhibits (d : ℕ) (a b out : List ℕ) (r : ℕ) (out' : List ℕ) : Type 0 where
-  pub found : Result (Option (List ℕ))
+  pub found : Result (Option (List ℕ)) Refusal
   pub is : Found d (asked d a b out) found
   pub numbered : r ≡ count_number (put d out found).answer
   pub output : out' ≡ (put d out found).output

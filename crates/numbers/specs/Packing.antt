@@ -1,23 +1,21 @@
 -- For private contracts: what fits into one number.
-use Rattle.std.specs.Prelude.{◌≡◌, ℕ, ◌+◌, ◌*◌, ◌<◌}
+use Rattle.std.specs.Prelude.{◌≡◌, ℕ, ◌+◌, ◌*◌, ◌<◌, Result, Ok}
+use Rattle.refusals.specs.declared.Refusal.{Refusal}
 use Rattle.refusals.specs.declared.Refusal.TheVariants.{IllFormedLedger, DoesNotFollow}
 use Rattle.refusals.specs.Refusals.{number}
-use Rattle.formula.specs.declared.Size.{Size}
 use Rattle.replies.specs.declared.Made.{Made}
-use Rattle.replies.specs.declared.Made.TheVariants.{Step}
 use Rattle.desk.specs.declared.Verdict.{Verdict}
 use Rattle.desk.specs.declared.Verdict.TheVariants.{Ill, Fails, Passes}
 use Rattle.text.specs.declared.Claim.{Claim}
-use Rattle.text.specs.declared.Claim.TheVariants.{Read}
 use Rattle.numbers.specs.Answers.{refused}
 
 -- The step takes 32 bits, and the length of the result 31.
-pub record Packs (a : Made) : Type 0 where
-  pub fits : (n : ℕ) (z : Size) → a ≡ Step n z → (n < 4294967296) × (z.len < 2147483648)
+pub record Packs (a : Result Made Refusal) : Type 0 where
+  pub fits : (m : Made) → a ≡ Ok m → (m.step < 4294967296) × (m.size.len < 2147483648)
 
 -- d and the lengths of the faces of a claim take 16 bits each.
-pub record ClaimFits (a : Claim) : Type 0 where
-  pub fits : (d x y : ℕ) → a ≡ Read d x y → (d < 65536) × (x < 65536) × (y < 65536)
+pub record ClaimFits (a : Result Claim Refusal) : Type 0 where
+  pub fits : (c : Claim) → a ≡ Ok c → (c.d < 65536) × (c.left < 65536) × (c.right < 65536)
 
 -- The step that does not follow takes 32 bits.
 pub record Low (v : Verdict) : Type 0 where

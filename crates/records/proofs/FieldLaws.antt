@@ -258,9 +258,6 @@ module _ {cs : List Field} {l : List ℕ} {at k e : ℕ} (g : Left cs l at k e) 
   pub left-on : {r : ℕ} → Some r ≡ field_end (get_or F k Number) l e → Left cs l at (k + 1) r
   left-on j = record { each = turned (sym j); inside = field_fits (get_or F k Number) l e g.inside (sym j) }
 
-pub left-start : (cs : List Field) (l : List ℕ) (at : ℕ) → at ≤ length l → Left cs l at 0 at
-left-start cs l at h = record { each = refl; inside = h }
-
 pub left-none : {cs : List Field} {l : List ℕ} {at k e : ℕ} → Left cs l at k e → {F : List Answered} → F ≡ map field_as cs → length F ≤ k → Some e ≡ values_end cs l at
 left-none {cs} {l} {at} {k} {e} g i h = sym (values-none l e g.inside) ∙ ap (λ (ds : List Field). values_end ds l e) (sym (drop_of_length-le cs {i = k} (omega (arith, ap length i, length-map cs field_as)))) ∙ g.each
 

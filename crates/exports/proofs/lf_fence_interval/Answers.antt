@@ -3,4 +3,4 @@ use Rattle.numbers.specs.Answers.{count_number}
 use Rattle.exports.proofs.lf_fence_interval.Goals as goal
 
 pub returns : goal.returns
-returns c = c.counted.ensures ∙ ap count_number c.count.ensures
+returns c = c.counted.ensures.0 ∙ ap count_number c.count.ensures

@@ -5,9 +5,6 @@ use Rattle.index.proofs.FindLaws.{slots-inside, walk_start, walk_inside, walk-no
 use Rattle.index.proofs.RoomLaws.{holds-eight}
 use Rattle.index.proofs.chain.find_in.Goals as goal
 
-pub overflow_add-b : goal.overflow_add-b
-overflow_add-b c = omega (arith, c.requires.2)
-
 pub slot-i-requires : goal.slot-i-requires
 slot-i-requires c = omega (arith, c.requires.2, c.requires.0.room, holds-eight c.requires.0.led)
 

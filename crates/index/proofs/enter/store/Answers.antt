@@ -1,15 +1,8 @@
-use native.Mathlib.Omega.{arith}
 use mathlib.Core.Path.{◌≡◌, ap, ◌∙◌}
 use Prim.Native.Nat.{ℕ, ◌+◌, ◌-◌, ◌*◌, ◌/◌}
-use lib.ListN.{set, get_or, length-set}
+use lib.ListN.{set, get_or}
 use Rattle.index.specs.Index.{heads_of, linked}
 use Rattle.index.proofs.enter.store.Goals as goal
-
-pub bounds-x-b-2 : goal.bounds-x-b-2
-bounds-x-b-2 c = simp length-set (omega (arith, c.note.auto.x, c.requires))
-
-pub bounds-x-0 : goal.bounds-x-0
-bounds-x-0 c = simp length-set (omega (arith, c.note.auto.x, c.requires))
 
 pub returns : goal.returns
 unfolding linked

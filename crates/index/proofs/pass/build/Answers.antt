@@ -6,12 +6,6 @@ use Rattle.ledger.proofs.PointLaws.{walks-points, walks-forward}
 use Rattle.index.proofs.BuildLaws.{build-start, build-turn, zeroed-length, built}
 use Rattle.index.proofs.pass.build.Goals as goal
 
-pub overflow_add-h : goal.overflow_add-h
-overflow_add-h c = omega (arith, c.heads-h.ensures)
-
-pub used-end-requires : goal.used-end-requires
-used-end-requires c = c.requires.0
-
 pub loop-c-init : goal.loop-c-init
 loop-c-init c = build-start c.requires.0 c.heads-h.result c.args.x.now c.fill.new.self c.heads-h.ensures c.requires.1 (c.fill.ensures.after (λ y h. search rules)) c.start-c.ensures
 

@@ -4,6 +4,3 @@ use Rattle.kinds.proofs.table.entry_of.Goals as goal
 
 pub returns-in_err-references : goal.returns-in_err-references
 returns-in_err-references c = c.from_residual.ensures ∙ sym (ap entry_as c.in_err-references.ensures)
-
-pub returns : goal.returns
-returns c = c.in_ok-references.ensures.1
