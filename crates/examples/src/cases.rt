@@ -22,7 +22,7 @@ enum Ask {
 }
 
 impl Ask {
-    // By its number in the input, from 1 on.
+    // By its number in the input, from 1 on; the last for all that follow.
     fn numbered(n: usize) -> Option<Ask> {
         let ask = match n {
             1 => Ask::Measure,
@@ -35,8 +35,8 @@ impl Ask {
             8 => Ask::Ledger,
             9 => Ask::Name,
             10 => Ask::Put,
-            11 => Ask::Same,
-            _ => return None,
+            0 => return None,
+            _ => Ask::Same,
         };
         Some(ask)
     }
@@ -63,18 +63,18 @@ fn sort_of(n: usize) -> Sort {
 
 // The next case, where one is left.
 pub fn head<R: Read>(input: &mut R) -> io::Result<Option<Case>> {
-    let Some(ask) = Ask::numbered(stdio::read_number(input)?) else {
-        return Ok(None);
-    };
-    Ok(Some(Case {
-        ask,
-        sort: sort_of(stdio::read_number(input)?),
+    let number = stdio::read_number(input)?;
+    let sort = sort_of(stdio::read_number(input)?);
+    let next = Case {
+        ask: Ask::Same,
+        sort,
         number: stdio::read_number(input)?,
         room: stdio::read_number(input)?,
         label: stdio::read_number(input)?,
         first: stdio::read_number(input)?,
         second: stdio::read_number(input)?,
-    }))
+    };
+    Ok(Ask::numbered(number).map(|ask| Case { ask, ..next }))
 }
 
 // The second slice of a boundary has as many bytes as the case's number says.

@@ -1,7 +1,7 @@
 // What standard input says of a call.
 use crate::judge::Said;
 use std::io;
-use std::io::{ErrorKind, Read};
+use std::io::Read;
 
 // A call of the engine, in the order of their numbers in the input.
 #[derive(Clone, Copy)]
@@ -18,10 +18,10 @@ pub enum Call {
     Entails,
 }
 
-// A call with its number, whether its end is one, the lengths of its outputs, operands and results, and what is expected of it.
+// A call, none where its number names none, with its number, whether its end is one, the lengths of its outputs, operands and results, and what is expected of it.
 #[derive(Clone, Copy)]
 pub struct Heading {
-    pub call: Call,
+    pub call: Option<Call>,
     pub number: usize,
     pub one: bool,
     pub rooms: (usize, usize),
@@ -30,20 +30,22 @@ pub struct Heading {
     pub expected: Said,
 }
 
-fn call_of(kind: u8) -> io::Result<Call> {
-    match kind {
-        0 => Ok(Call::Face),
-        1 => Ok(Call::Interval),
-        2 => Ok(Call::Boundary),
-        3 => Ok(Call::Endpoint),
-        4 => Ok(Call::Forall),
-        5 => Ok(Call::FaceShift),
-        6 => Ok(Call::IntervalShift),
-        7 => Ok(Call::FaceSubstitute),
-        8 => Ok(Call::IntervalSubstitute),
-        9 => Ok(Call::Entails),
-        _ => Err(io::Error::from(ErrorKind::InvalidData)),
-    }
+// The call with a number, if there is one.
+fn call_of(kind: u8) -> Option<Call> {
+    let call = match kind {
+        0 => Call::Face,
+        1 => Call::Interval,
+        2 => Call::Boundary,
+        3 => Call::Endpoint,
+        4 => Call::Forall,
+        5 => Call::FaceShift,
+        6 => Call::IntervalShift,
+        7 => Call::FaceSubstitute,
+        8 => Call::IntervalSubstitute,
+        9 => Call::Entails,
+        _ => return None,
+    };
+    Some(call)
 }
 
 // The answer is the refusal, or 16 and the step's number.
@@ -59,7 +61,7 @@ pub fn head<R: Read>(input: &mut R) -> io::Result<Heading> {
     let answer = answer_of(stdio::read_number(input)?);
     let results = stdio::read_pair(input)?;
     Ok(Heading {
-        call: call_of(kind)?,
+        call: call_of(kind),
         number,
         one: one != 0,
         rooms,

@@ -13,20 +13,20 @@ use formula::Sort;
 use std::io;
 use std::io::{BufReader, BufWriter, Read, Write};
 
-// One call of the engine.
+// One call of the engine; a number that names none asks for a substitution in an interval.
 fn ask(l: &mut [u8], h: Heading, a: &[u8], b: &[u8], out: &mut [u8], second: &mut [u8]) -> Said {
     let d = h.number;
     match h.call {
-        Call::Face => step(engine::face(l, d, a)),
-        Call::Interval => step(engine::interval(l, d, a)),
-        Call::Boundary => made(engine::boundary(l, a, out, second)),
-        Call::Endpoint => step(engine::endpoint(l, d, a, b, h.one)),
-        Call::Forall => made(engine::forall(l, a, d, out)),
-        Call::FaceShift => made(engine::shift(l, Sort::Faces, a, d, out)),
-        Call::IntervalShift => made(engine::shift(l, Sort::Intervals, a, d, out)),
-        Call::FaceSubstitute => made(engine::substitute(l, Sort::Faces, a, d, b, out)),
-        Call::IntervalSubstitute => made(engine::substitute(l, Sort::Intervals, a, d, b, out)),
-        Call::Entails => step(engine::entails(l, d, a, b)),
+        Some(Call::Face) => step(engine::face(l, d, a)),
+        Some(Call::Interval) => step(engine::interval(l, d, a)),
+        Some(Call::Boundary) => made(engine::boundary(l, a, out, second)),
+        Some(Call::Endpoint) => step(engine::endpoint(l, d, a, b, h.one)),
+        Some(Call::Forall) => made(engine::forall(l, a, d, out)),
+        Some(Call::FaceShift) => made(engine::shift(l, Sort::Faces, a, d, out)),
+        Some(Call::IntervalShift) => made(engine::shift(l, Sort::Intervals, a, d, out)),
+        Some(Call::FaceSubstitute) => made(engine::substitute(l, Sort::Faces, a, d, b, out)),
+        Some(Call::IntervalSubstitute) | None => made(engine::substitute(l, Sort::Intervals, a, d, b, out)),
+        Some(Call::Entails) => step(engine::entails(l, d, a, b)),
     }
 }
 

@@ -31,9 +31,11 @@ impl Tally {
         }
     }
 
-    pub fn call(&mut self, call: Call, said: Said) {
+    pub fn call(&mut self, call: Option<Call>, said: Said) {
         count(&mut self.calls);
-        count(&mut self.kinds[call as usize]);
+        if let Some(kind) = call {
+            count(&mut self.kinds[kind as usize]);
+        }
         match said.answer {
             Ok(_) => count(&mut self.steps),
             Err(q) => {
