@@ -30,13 +30,24 @@ pub fn interval(ledger: &mut [u8], d: usize, r: &[u8]) -> Result<usize, Refusal>
     engine::interval(ledger, d, r)
 }
 
-pub fn boundary(ledger: &mut [u8], r: &[u8], out0: &mut [u8], out1: &mut [u8]) -> Result<Made, Refusal>
+pub fn boundary(
+    ledger: &mut [u8],
+    r: &[u8],
+    out0: &mut [u8],
+    out1: &mut [u8],
+) -> Result<Made, Refusal>
     ensures { Says enums ledger.old (record { call = boundary_call r.now out0.old out1.old; answer = said_both result; ledger = ledger.new; outputs = out0.new ∷ out1.new ∷ [] }) }
 {
     engine::boundary(ledger, r, out0, out1)
 }
 
-pub fn endpoint(ledger: &mut [u8], d: usize, phi: &[u8], r: &[u8], one: bool) -> Result<usize, Refusal>
+pub fn endpoint(
+    ledger: &mut [u8],
+    d: usize,
+    phi: &[u8],
+    r: &[u8],
+    one: bool,
+) -> Result<usize, Refusal>
     ensures { Says enums ledger.old (record { call = endpoint_call d phi.now r.now one; answer = said result; ledger = ledger.new; outputs = [] }) }
 {
     engine::endpoint(ledger, d, phi, r, one)
@@ -48,7 +59,13 @@ pub fn forall(ledger: &mut [u8], f: &[u8], k: usize, out: &mut [u8]) -> Result<M
     engine::forall(ledger, f, k, out)
 }
 
-pub fn shift(ledger: &mut [u8], sort: Sort, t: &[u8], k: usize, out: &mut [u8]) -> Result<Made, Refusal>
+pub fn shift(
+    ledger: &mut [u8],
+    sort: Sort,
+    t: &[u8],
+    k: usize,
+    out: &mut [u8],
+) -> Result<Made, Refusal>
     ensures { Says enums ledger.old (record { call = shift_call sort t.now k out.old; answer = said_one result; ledger = ledger.new; outputs = out.new ∷ [] }) }
 {
     engine::shift(ledger, sort, t, k, out)

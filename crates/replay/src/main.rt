@@ -25,7 +25,14 @@ fn ask(l: &mut [u8], h: Heading, a: &[u8], b: &[u8], out: &mut [u8], second: &mu
         Some(Call::FaceShift) => made(engine::shift(l, Sort::Faces, a, d, out)),
         Some(Call::IntervalShift) => made(engine::shift(l, Sort::Intervals, a, d, out)),
         Some(Call::FaceSubstitute) => made(engine::substitute(l, Sort::Faces, a, d, b, out)),
-        Some(Call::IntervalSubstitute) | None => made(engine::substitute(l, Sort::Intervals, a, d, b, out)),
+        Some(Call::IntervalSubstitute) | None => made(engine::substitute(
+            l,
+            Sort::Intervals,
+            a,
+            d,
+            b,
+            out,
+        )),
         Some(Call::Entails) => step(engine::entails(l, d, a, b)),
     }
 }
