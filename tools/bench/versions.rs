@@ -1,4 +1,4 @@
-// Times boundary, substitution and the normal form in two builds of the library, in turn: the least of the rounds.
+// Times calls, the desk, texts and the normal form in two builds of the library, in turn: the least of the rounds.
 // usage: versions ROUNDS
 use std::hint::black_box;
 use std::time::Instant;
@@ -27,9 +27,20 @@ builds! {
     substitute_interval: before_lf_substitute_interval, after_lf_substitute_interval
         (l: *mut u8, n: usize, t: *const u8, tn: usize, k: u64, r: *const u8, rn: usize, out: *mut u8, on: usize);
     normal: before_lf_normal, after_lf_normal (f: *const u8, n: usize, out: *mut u8, on: usize);
+    entails: before_lf_entails, after_lf_entails
+        (l: *mut u8, n: usize, d: u64, a: *const u8, an: usize, b: *const u8, bn: usize);
+    desk: before_lf_step_desk, after_lf_step_desk (l: *const u8, n: usize);
+    well_formed: before_lf_well_formed, after_lf_well_formed (l: *const u8, n: usize);
+    counterexample: before_lf_counterexample, after_lf_counterexample
+        (d: u64, a: *const u8, an: usize, b: *const u8, bn: usize, out: *mut u8, on: usize);
+    read_face: before_lf_read_face, after_lf_read_face (t: *const u8, n: usize, out: *mut u8, on: usize);
+    write_face: before_lf_write_face, after_lf_write_face (f: *const u8, n: usize, out: *mut u8, on: usize);
 }
 
-const OUT: usize = 1024;
+const OUT: usize = 8192;
+
+// How many dimensions the loads have.
+const DIMS: u64 = 8;
 
 // What a call leaves: the answer, the ledger and two outputs.
 #[derive(PartialEq)]
@@ -40,6 +51,12 @@ enum Question<'a> {
     Face(&'a [u8], u64, &'a [u8]),
     Interval(&'a [u8], u64, &'a [u8]),
     Normal(&'a [u8]),
+    Entails(&'a [u8], &'a [u8]),
+    Desk(&'a [u8]),
+    WellFormed(&'a [u8]),
+    Counterexample(&'a [u8], &'a [u8]),
+    Read(&'a [u8]),
+    Write(&'a [u8]),
 }
 
 impl Question<'_> {
@@ -78,6 +95,23 @@ impl Question<'_> {
                     OUT,
                 ),
                 Question::Normal(f) => normal(old, f.as_ptr(), f.len(), zero, OUT),
+                Question::Entails(a, b) => {
+                    entails(old, l, n, DIMS, a.as_ptr(), a.len(), b.as_ptr(), b.len())
+                }
+                Question::Desk(x) => desk(old, x.as_ptr(), x.len()),
+                Question::WellFormed(x) => well_formed(old, x.as_ptr(), x.len()),
+                Question::Counterexample(a, b) => counterexample(
+                    old,
+                    DIMS,
+                    a.as_ptr(),
+                    a.len(),
+                    b.as_ptr(),
+                    b.len(),
+                    zero,
+                    OUT,
+                ),
+                Question::Read(t) => read_face(old, t.as_ptr(), t.len(), zero, OUT),
+                Question::Write(f) => write_face(old, f.as_ptr(), f.len(), zero, OUT),
             }
         };
     }
@@ -149,7 +183,22 @@ fn main() {
     for leaves in [1, 16, 64, 160] {
         let face = load(1, true, leaves, 8);
         let interval = load(1, false, leaves, 8);
+        // Behind its questions: the ledger that entails leaves, and the face as a text.
+        let other = load(2, true, leaves, 8);
+        let fresh = || Left(0, vec![0; 65536], [[0; OUT]; 2]);
+        let mut left = fresh();
+        Question::Entails(&face, &face).ask(true, &mut left);
+        let mut text = fresh();
+        Question::Write(&face).ask(true, &mut text);
+        let text = &text.2[0][..text.0 as usize];
         let rows = [
+            ("entails itself", Question::Entails(&face, &face)),
+            ("entails another", Question::Entails(&face, &other)),
+            ("desk on its ledger", Question::Desk(&left.1)),
+            ("well formed", Question::WellFormed(&left.1)),
+            ("counterexample", Question::Counterexample(&face, &other)),
+            ("read face", Question::Read(text)),
+            ("write face", Question::Write(&face)),
             ("boundary", Question::Boundary(&interval)),
             ("face-substitute", Question::Face(&face, 3, &r)),
             ("interval-substitute", Question::Interval(&interval, 3, &r)),

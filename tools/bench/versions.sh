@@ -1,5 +1,5 @@
 #!/usr/bin/env bash
-# Times what writes literals (boundary, substitution, the normal form) in two builds of our library, in one run and in turn.
+# Times calls, the desk, texts and the normal form in two builds of our library, in one run and in turn.
 # usage: versions.sh BEFORE AFTER [ROUNDS]     two folders with a libexports.a each; 2,000 rounds unless said
 set -euo pipefail
 root=$(cd "$(dirname "${BASH_SOURCE[0]}")/../.." && pwd)
