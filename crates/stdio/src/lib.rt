@@ -1,7 +1,7 @@
 // Bytes in decimal to a writer, numbers and bytes from a reader, and whole inputs: what the programs share.
 #![tactic(auto)]
 
-ghost use Rattle.std.specs.Prelude.{◌≡◌, ◌<◌, ◌≤◌, ◌+◌, ◌-◌, ◌*◌, [], min, length, slice_index, take, drop, true, false, replicate, ℕ, List, IfOk, OnOk, OnErr};
+ghost use Rattle.std.specs.Prelude.{◌≡◌, ◌<◌, ◌≤◌, ◌+◌, ◌-◌, ◌*◌, [], min, length, slice_index, take, drop, true, false, All, ℕ, List, IfOk, OnOk, OnErr};
 ghost use Rattle.std.specs.Io.KnownBytes.{Appends, Consumes, IsAtEnd, Keeps};
 ghost use Rattle.stdio.specs.Front.{IsPrefixLen, Gathers, spaced, Padded, word_value, low_value, high_value, low_sum, high_sum};
 
@@ -130,7 +130,8 @@ pub fn read_bytes<'a, R: Read>(input: &mut R, space: &'a mut [u8], n: usize) -> 
 
 // So many zeros.
 pub fn zeros<const N: usize>() -> [u8; N]
-    ensures { result ≡ replicate N 0 }
+    ensures long { N ≡ length result }
+    ensures zeros { All (λ x. x ≡ 0) result }
 {
     [0; N]
 }
