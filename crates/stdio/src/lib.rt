@@ -107,7 +107,8 @@ pub fn read_number<R: Read>(input: &mut R) -> io::Result<usize>
 
 // The next two numbers of the input, of two bytes each.
 pub fn read_pair<R: Read>(input: &mut R) -> io::Result<(usize, usize)>
-    ensures { IfOk result (λ p. (b : List ℕ) × Padded (R.remaining input.old) (R.remaining input.new) b × (p.0 ≡ low_value b) × (p.1 ≡ high_value b)) }
+    ensures bounds { IfOk result (λ p. (p.0 < 65536) × (p.1 < 65536)) }
+    ensures read { IfOk result (λ p. (b : List ℕ) × Padded (R.remaining input.old) (R.remaining input.new) b × (p.0 ≡ low_value b) × (p.1 ≡ high_value b)) }
 {
     let [a, b, c, d] = word(input)?;
     let low = u16::from_le_bytes([a, b]);
