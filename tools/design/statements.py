@@ -1,6 +1,6 @@
 #!/usr/bin/env python3
 """What the crates say now beside what they said at a commit: public signatures with their clauses, types, definitions of specs/ and
-statements of the lemmas in proofs/, each old and new, as Markdown.
+statements of the lemmas in proofs/ that README or docs/ named, each old and new, as Markdown.
 
     python3 tools/design/statements.py COMMIT > /tmp/statements.md
 
@@ -80,12 +80,23 @@ def cell(s):
 
 then = collect(lambda f: git("show", f"{old}:{f}"), git("ls-tree", "-r", "--name-only", old).split("\n"))
 now = collect(lambda f: open(f).read(), git("ls-files").split("\n"))
+pages = [f for f in git("ls-tree", "-r", "--name-only", old, "README.md", "docs").split("\n") if f.endswith(".md") and "PORT" not in f]
+named = set(re.findall(r"`([^`\n]+)`", "".join(git("show", f"{old}:{f}") for f in pages)))
 for title, a, b in zip(["Public functions", "Public types", "Definitions", "Lemmas"], then, now):
     changed = [k for k in a if b.get(k) != a[k]] + [k for k in b if k not in a]
     if title == "Lemmas":
-        changed = [k for k in changed if k in a]
+        # Those that README or docs/ named; of the others the names of those that are gone.
+        gone = {}
+        for k in a:
+            if k not in b and not any(k.split()[2] == n.split()[2] and k.split()[0] == n.split()[0] for n in b):
+                gone.setdefault(k.split()[0], []).append(k.split()[2])
+        changed = [k for k in changed if k in a and k.split()[2] in named]
     print(f"### {title}\n\n{len(a)} then, {len(b)} now; the same {sum(b.get(k) == a[k] for k in a)}, changed {sum(k in b and b[k] != a[k] for k in a)}, "
           f"gone {sum(k not in b for k in a)}, new {sum(k not in a for k in b)}.\n\n| | old | new |\n|---|---|---|")
     for k in sorted(changed):
         print(f"| {k} | {cell(a.get(k, ''))} | {cell(b.get(k, ''))} |")
     print()
+    if title == "Lemmas":
+        print("The lemmas that are gone, by crate:\n")
+        for c in sorted(gone):
+            print(f"- `{c}`: {', '.join(gone[c])}")
