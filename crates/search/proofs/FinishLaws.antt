@@ -20,8 +20,7 @@ use Rattle.std.specs.Prelude.{Result, Ok}
 use Rattle.steps.specs.Running.{Ran, Book, book, Kept, done_by, step_by, Ends, Runs}
 use Rattle.steps.specs.Trees.{Is}
 use Rattle.steps.proofs.RunLaws.{runs-below, runs_done}
-use Rattle.contexts.specs.declared.context.Context.{Context}
-use Rattle.contexts.specs.Faces.{faces_of}
+use Rattle.contexts.specs.Contexts.{Are}
 use Rattle.contexts.specs.Moves.{Settled}
 
 -- The step of a search that was done has its judgement.
@@ -34,15 +33,13 @@ judges G g L M n o (leaves w) e = cc
 judges G g L M n o no_room e = cc
 
 -- A search that is done is finished.
-pub ended : (g : Context) {f : Face} {k : List ℕ} → Is Faces f k → {l l' : Book} {r : Ran} → Runs l (emit_cover (faces_of g) f) r l' → done_by r ≡ true → (step_by r < length (steps_of l'.bytes)) × Finished (steps_of l'.bytes) (step_by r)
-ended g {f} a {l} {l'} {r} h d =
-    let G = faces_of g in
-    let w = g.sound in
+pub ended : {G : List Face} {g : Face} {n : ℕ} {b k : List ℕ} → Are G n b → Is Faces g k → {l l' : Book} {r : Ran} → Runs l (emit_cover G g) r l' → done_by r ≡ true → (step_by r < length (steps_of l'.bytes)) × Finished (steps_of l'.bytes) (step_by r)
+ended {G} {g} w a {l} {l'} {r} h d =
     let L = steps_of l.bytes in
     let M = steps_of l'.bytes in (
       runs-below h d,
-      finished-done (within (length l.bytes)) L M (step_by r) G f (runs_done h d)
-          (judges G f L M (step_by r) (run (within (length l.bytes)) (emit_cover G f) L) (cover-good (within (length l.bytes)) G f w.few w.low a.few a.low L) (runs_done h d)),
+      finished-done (within (length l.bytes)) L M (step_by r) G g (runs_done h d)
+          (judges G g L M (step_by r) (run (within (length l.bytes)) (emit_cover G g) L) (cover-good (within (length l.bytes)) G g w.few w.low a.few a.low L) (runs_done h d)),
     )
 
 -- The same ledger with another index of it.

@@ -242,7 +242,7 @@ pub take_turn-returns-in-Stuck : goal.take_turn-returns-in-Stuck
 take_turn-returns-in-Stuck t c = record { runs = by_turn c.next_turn.ensures (told c.next_turn.ensures c.in-Stuck.is) (runs-failure (kept-of c.args.p.now) not-implied); lent = lent-same }
 
 pub fresh-mark-requires : goal.fresh-mark-requires
-fresh-mark-requires t c = let e = ended c.args.g c.requires c.in_ok-i.ensures.runs refl in (runs-led c.in_ok-i.ensures.runs, e.0, e.1)
+fresh-mark-requires t c = let e = ended c.args.g.sound c.requires c.in_ok-i.ensures.runs refl in (runs-led c.in_ok-i.ensures.runs, e.0, e.1)
 
 pub or_right-cover_step-requires-in-Err-2 : goal.or_right-cover_step-requires-in-Err-2
 or_right-cover_step-requires-in-Err-2 t c = (runs-led c.in_ok-i-in-Err-2.ensures.runs, c.requires.0)
