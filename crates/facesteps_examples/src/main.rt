@@ -58,7 +58,8 @@ fn all<W: Write>(out: &mut W, s: &[u8], space: &mut [u8]) -> io::Result<()> {
 
 fn main(rt: HostRuntime) -> io::Result<()> {
     let mut input = stdio::room();
-    let cases = stdio::read_all(&mut rt.reader(), &mut input)?;
+    let n = stdio::fill(&mut rt.reader(), &mut input)?;
+    let cases = &input[..n];
     let mut out = BufWriter::new(rt.alloc(), io::writer(&rt))?;
     all(&mut out, cases, &mut [0u8; 65536])?;
     out.flush()

@@ -40,5 +40,6 @@ pub fn read<'a, R: Env + Files>(rt: &R, i: usize, space: &'a mut [u8]) -> io::Re
     let Ok(path) = str::from_utf8(arg(rt, i, &mut name)) else {
         return Err(io::Error::from(ErrorKind::InvalidFilename));
     };
-    stdio::read_all(&mut fs::open(rt, path)?, space)
+    let n = stdio::fill(&mut fs::open(rt, path)?, space)?;
+    Ok(&space[..n])
 }

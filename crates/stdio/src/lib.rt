@@ -63,17 +63,6 @@ pub fn fill<R: Read>(input: &mut R, space: &mut [u8]) -> io::Result<usize>
     Ok(n)
 }
 
-// All of the input, as far as the space reaches.
-pub fn read_all<'a, R: Read>(input: &mut R, space: &'a mut [u8]) -> io::Result<&'a [u8]>
-    ensures within { IfOk result (λ r. length r.now ≤ length space.old) }
-    ensures took { IfOk result (λ r. Consumes (R.remaining input.old) (R.remaining input.new) r.now) }
-    ensures ended { IfOk result (λ r. length r.now < length space.old → IsAtEnd (R.remaining input.new)) }
-    ensures err { OnErr result ((b : List ℕ) × (length b ≤ length space.old) × Consumes (R.remaining input.old) (R.remaining input.new) b) }
-{
-    let n = fill(input, space)?;
-    Ok(&space[..n])
-}
-
 // Two sums of the bytes, as Adler's checksum has them.
 pub fn adler(s: &[u8]) -> (usize, usize)
     ensures bounds { (result.0 < 65521) × (result.1 < 65521) }

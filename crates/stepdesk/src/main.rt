@@ -41,7 +41,8 @@ fn main(rt: HostRuntime) -> io::Result<()> {
     let mut out = io::writer(&rt);
     let count = files::arg_count(&rt);
     if count < 2 {
-        return tell(&mut out, stdio::read_all(&mut rt.reader(), &mut space));
+        let read = stdio::fill(&mut rt.reader(), &mut space);
+        return tell(&mut out, read.map(|n| &space[..n]));
     }
     tell_files(&rt, &mut out, count, &mut space)
 }
