@@ -48,7 +48,31 @@ fn emit_in(
     emission::emit_step(l, ix, kind, references, &out[..n]).ok_or(Stop::Full)
 }
 
-// Emits the step of this kind whose operands are the parts, one after another. Most operands are short, and clearing a small array costs little.
+// The same in an array of its own; `room` bytes are enough, or it begins again with as many as there may be. Most operands are short, and clearing a small array costs little. It calls itself so that no compiler puts the arrays into the frames of the emitters, which call themselves for each node.
+fn emit_within(
+    l: &mut [u8],
+    ix: &mut [u32],
+    kind: usize,
+    references: [usize; 3],
+    parts: &[&[u8]],
+    room: usize,
+) -> Ran
+    requires { Indexed l.old ix.old × (length (joined parts.now) ≤ 4096) }
+    ensures { Emits (book l.old ix.old) kind references (joined parts.now) result (book l.new ix.new) }
+{
+    let n = total(parts);
+    if room < n {
+        return emit_within(l, ix, kind, references, parts, 4096);
+    }
+    if n <= 128 {
+        let mut few = [0u8; 128];
+        return emit_in(l, ix, kind, references, parts, &mut few);
+    }
+    let mut many = [0u8; 4096];
+    emit_in(l, ix, kind, references, parts, &mut many)
+}
+
+// Emits the step of this kind whose operands are the parts, one after another.
 pub fn emit(
     l: &mut [u8],
     ix: &mut [u32],
@@ -59,10 +83,5 @@ pub fn emit(
     requires { Indexed l.old ix.old × (length (joined parts.now) ≤ 4096) }
     ensures { Emits (book l.old ix.old) kind references (joined parts.now) result (book l.new ix.new) }
 {
-    if total(parts) <= 128 {
-        let mut few = [0u8; 128];
-        return emit_in(l, ix, kind, references, parts, &mut few);
-    }
-    let mut many = [0u8; 4096];
-    emit_in(l, ix, kind, references, parts, &mut many)
+    emit_within(l, ix, kind, references, parts, 128)
 }
