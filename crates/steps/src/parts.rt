@@ -32,47 +32,23 @@ fn join(parts: &[&[u8]], out: &mut [u8]) -> usize
     end
 }
 
-// Emits the step of this kind whose operands are the parts, which are put one after another into `out`.
-fn emit_in(
+// Emits the step of this kind whose operands are the parts, one after another, in an array of N bytes.
+fn emit_in<const N: usize>(
     l: &mut [u8],
     ix: &mut [u32],
     kind: usize,
     references: [usize; 3],
     parts: &[&[u8]],
-    out: &mut [u8],
 ) -> Ran
-    requires { Indexed l.old ix.old × (length (joined parts.now) ≤ length out.old) }
+    requires { Indexed l.old ix.old × (N ≤ 4096) × (length (joined parts.now) ≤ N) }
     ensures { Emits (book l.old ix.old) kind references (joined parts.now) result (book l.new ix.new) }
 {
-    let n = join(parts, out);
+    let mut out = [0u8; N];
+    let n = join(parts, &mut out);
     emission::emit_step(l, ix, kind, references, &out[..n]).ok_or(Stop::Full)
 }
 
-// The same in an array of its own; `room` bytes are enough, or it begins again with as many as there may be. Most operands are short, and clearing a small array costs little. It calls itself so that no compiler puts the arrays into the frames of the emitters, which call themselves for each node.
-fn emit_within(
-    l: &mut [u8],
-    ix: &mut [u32],
-    kind: usize,
-    references: [usize; 3],
-    parts: &[&[u8]],
-    room: usize,
-) -> Ran
-    requires { Indexed l.old ix.old × (length (joined parts.now) ≤ 4096) }
-    ensures { Emits (book l.old ix.old) kind references (joined parts.now) result (book l.new ix.new) }
-{
-    let n = total(parts);
-    if room < n {
-        return emit_within(l, ix, kind, references, parts, 4096);
-    }
-    if n <= 128 {
-        let mut few = [0u8; 128];
-        return emit_in(l, ix, kind, references, parts, &mut few);
-    }
-    let mut many = [0u8; 4096];
-    emit_in(l, ix, kind, references, parts, &mut many)
-}
-
-// Emits the step of this kind whose operands are the parts, one after another.
+// Emits the step of this kind whose operands are the parts, one after another. Most operands are short, and clearing a small array costs little.
 pub fn emit(
     l: &mut [u8],
     ix: &mut [u32],
@@ -83,5 +59,8 @@ pub fn emit(
     requires { Indexed l.old ix.old × (length (joined parts.now) ≤ 4096) }
     ensures { Emits (book l.old ix.old) kind references (joined parts.now) result (book l.new ix.new) }
 {
-    emit_within(l, ix, kind, references, parts, 128)
+    if total(parts) <= 128 {
+        return emit_in::<128>(l, ix, kind, references, parts);
+    }
+    emit_in::<4096>(l, ix, kind, references, parts)
 }
