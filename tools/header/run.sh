@@ -30,6 +30,7 @@ echo 'C++11:'
 "$built/check-c++" "${samples[@]}" >"$built/seen-c++" || { tail -2 "$built/seen-c++"; exit 1; }
 tail -2 "$built/seen-c++"
 
+python3 tools/library/probes.py "$library/libexports.a"
 nm -g --defined-only "$library/libexports.a" >"$built/symbols"
 python3 tools/header/agree.py "$built/seen" "$built/symbols"
 
