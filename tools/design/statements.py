@@ -2,7 +2,7 @@
 """What the crates say now beside what they said at a commit: public signatures with their clauses, types, definitions of specs/ and
 statements of the lemmas in proofs/ that README or docs/ named, each old and new, as Markdown.
 
-    python3 tools/design/statements.py COMMIT > /tmp/statements.md
+    python3 tools/design/statements.py COMMIT > statements.md
 
 By text alone, from `git show`: moved text counts as gone in one place and new in another, and is put together where the name is the same."""
 import re
