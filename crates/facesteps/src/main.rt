@@ -8,7 +8,9 @@ use std::io;
 use std::io::{Read, Write};
 
 // Reads until a line has ended, the input has, a read fails or the space is full; what was read.
-fn read_line<'a, R: Read>(input: &mut R, space: &'a mut [u8]) -> &'a [u8] {
+fn read_line<'a, R: Read>(input: &mut R, space: &'a mut [u8]) -> &'a [u8]
+    ensures { length result.now ≤ length space.old }
+{
     let mut n: usize = 0;
     while n < space.len() && !space[..n].contains(&b'\n') {
         match stdio::read_more(input, space, n) {

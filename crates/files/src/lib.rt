@@ -20,7 +20,9 @@ pub fn arg_count<E: Env>(env: &E) -> usize {
 
 // Argument i of the command line, at the start of the space for a name; nothing where it is longer. `env::args` has only
 // arguments that are text.
-fn arg<'a, E: Env>(env: &E, i: usize, name: &'a mut [u8]) -> &'a [u8] {
+fn arg<'a, E: Env>(env: &E, i: usize, name: &'a mut [u8]) -> &'a [u8]
+    ensures { length result.now ≤ length name.old }
+{
     match env.arg(i, name) {
         Ok(n) => &name[..n],
         Err(_) => &[],

@@ -1,12 +1,16 @@
 // The repeat test on pairs of ledgers. tools/repeats/cases.py writes the input, and says what is to be printed.
 #![tactic(auto)]
 
+ghost use Rattle.std.specs.Prelude.{◌≤◌, length, IfOk};
+
 use refusals::Refusal;
 use std::io;
 use std::io::{BufReader, BufWriter, Read, Write};
 
 // The next ledger, with so many zeros behind its bytes; nothing where it has no room.
-fn read_ledger<'a, R: Read>(input: &mut R, space: &'a mut [u8]) -> io::Result<&'a [u8]> {
+fn read_ledger<'a, R: Read>(input: &mut R, space: &'a mut [u8]) -> io::Result<&'a [u8]>
+    ensures { IfOk result (λ r. length r.now ≤ length space.old) }
+{
     let n = stdio::read_number(input)?;
     let zeros = stdio::read_number(input)?;
     stdio::read_bytes(input, space, n)?;

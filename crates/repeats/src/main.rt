@@ -1,6 +1,8 @@
 // Says whether the ledgers in two files repeat each other.
 #![tactic(auto)]
 
+ghost use Rattle.std.specs.Prelude.{◌≤◌, length, IfOk, IfSome};
+
 use refusals::Refusal;
 use std::env::Env;
 use std::fs::Files;
@@ -16,7 +18,9 @@ fn load<'a, R: Env + Files, W: Write>(
     out: &mut W,
     i: usize,
     space: &'a mut [u8],
-) -> io::Result<Option<&'a [u8]>> {
+) -> io::Result<Option<&'a [u8]>>
+    ensures { IfOk result (λ r. IfSome r (λ l. length l.now ≤ length space.old)) }
+{
     let wrong = match files::read(rt, i, space) {
         Ok(l) if l.len() <= LONGEST => return Ok(Some(l)),
         Ok(_) => "longer than a ledger may be",

@@ -45,22 +45,50 @@ pub fn read_more<R: Read>(input: &mut R, space: &mut [u8], n: usize) -> io::Resu
     Ok(n + got)
 }
 
+// What was read: so many bytes, in front of the space, and whether no read failed.
+#[derive(Clone, Copy)]
+pub struct Content {
+    pub len: usize,
+    pub whole: bool,
+}
+
+// Reads until the space is full, the input ends or a read fails, and counts the bytes that came before that.
+fn gather<R: Read>(input: &mut R, space: &mut [u8], n: &mut usize) -> io::Result<()>
+    requires { n.old ≡ 0 }
+    ensures within { IsPrefixLen n.new space.new }
+    ensures gathers { OnOk result (Gathers (R.remaining input.old) (R.remaining input.new) space.new n.new true) }
+    ensures err { OnErr result (Gathers (R.remaining input.old) (R.remaining input.new) space.new n.new false) }
+{
+    while *n < space.len() {
+        let m = read_more(input, space, *n)?;
+        if m == *n {
+            break;
+        }
+        *n = m;
+    }
+    Ok(())
+}
+
 // Reads until the space is full or the input ends; how many bytes were read. Where a read fails, what came before it stands
-// in front of the space.
+// in front of the space: `read_all` says how many bytes that are.
 pub fn fill<R: Read>(input: &mut R, space: &mut [u8]) -> io::Result<usize>
     ensures within { IfOk result (λ n. IsPrefixLen n space.new) }
     ensures gathers { IfOk result (λ n. Gathers (R.remaining input.old) (R.remaining input.new) space.new n true) }
     ensures err { OnErr result ((n : ℕ) × IsPrefixLen n space.new × Gathers (R.remaining input.old) (R.remaining input.new) space.new n false) }
 {
     let mut n: usize = 0;
-    while n < space.len() {
-        let m = read_more(input, space, n)?;
-        if m == n {
-            break;
-        }
-        n = m;
-    }
+    gather(input, space, &mut n)?;
     Ok(n)
+}
+
+// Reads until the input ends, a read fails or the space is full: one read may bring fewer bytes than there are.
+pub fn read_all<R: Read>(input: &mut R, space: &mut [u8]) -> Content
+    ensures within { IsPrefixLen result.len space.new }
+    ensures gathers { Gathers (R.remaining input.old) (R.remaining input.new) space.new result.len result.whole }
+{
+    let mut n: usize = 0;
+    let whole = gather(input, space, &mut n).is_ok();
+    Content { len: n, whole }
 }
 
 // Two sums of the bytes, as Adler's checksum has them.

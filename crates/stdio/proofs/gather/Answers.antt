@@ -1,6 +1,6 @@
 use Rattle.std.proofs.Common.{arith, ◌∙◌}
 use Rattle.stdio.proofs.Behind.{Consumes-behind}
-use Rattle.stdio.proofs.fill.Goals as goal
+use Rattle.stdio.proofs.gather.Goals as goal
 
 pub loop-n-preserved : goal.loop-n-preserved
 loop-n-preserved g c =

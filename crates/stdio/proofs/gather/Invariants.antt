@@ -1,6 +1,6 @@
 use Rattle.std.proofs.Common.{length, take, ◌-◌, ◌≡◌, ◌≤◌}
 use Rattle.std.specs.Io.KnownBytes.{Consumes}
-use Rattle.stdio.proofs.fill.Given as goal
+use Rattle.stdio.proofs.gather.Given as goal
 
 abbrev pub invariant-loop-n : goal.invariant-loop-n
 invariant-loop-n g l = (length l.space ≡ length l.initial.space) × (l.n ≤ length l.space)
