@@ -31,6 +31,9 @@ echo 'C++11:'
 tail -2 "$built/seen-c++"
 
 python3 tools/library/probes.py "$library/libexports.a"
+# The header says that at most memcpy and memset come from outside.
+outside=$(nm -u "$library/libexports.a" | awk '$1 == "U" && $2 != "memcpy" && $2 != "memset" { print $2 }')
+[ -z "$outside" ] || { echo "the archive needs from outside: $outside"; exit 1; }
 nm -g --defined-only "$library/libexports.a" >"$built/symbols"
 python3 tools/header/agree.py "$built/seen" "$built/symbols"
 

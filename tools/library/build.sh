@@ -1,13 +1,13 @@
 #!/usr/bin/env bash
 # Proves the C functions (crates/exports_c, and all below it) and builds them: target/staticlib/libexports.a, for C and Rust.
-# usage: build.sh [BACKEND]     llvm unless said, or rattle
-# This kit's LLVM probes large frames with r11 and does not keep what stands in it, so where that register is in use then, a
-# function goes wrong (lf_normal did once): tools/header/run.sh looks for it by probes.py. Rattle's own compiler has no such fault, but puts the arrays of
-# an emission into the frames of the emitters, which take more stack then than LF_STACK_BYTES (docs/BENCHMARK.md).
+# usage: build.sh [BACKEND]     rattle unless said, or llvm
+# Rattle's own compiler makes an archive that needs no name from outside. LLVM's needs memcpy, memmove and memset; and this kit's LLVM probes
+# large frames with r11 and does not keep what stands in it, so where that register is in use then, a function goes wrong (lf_normal did
+# once): tools/header/run.sh looks for it by probes.py. docs/BENCHMARK.md has times and stack of both.
 set -euo pipefail
 root=$(cd "$(dirname "${BASH_SOURCE[0]}")/../.." && pwd)
 cd "$root/crates/exports_c"
-rt lib --backend "${1:-llvm}"
+rt lib --backend "${1:-rattle}"
 mkdir -p "$root/target/staticlib"
 # An archive that is the same stays, so that nothing that is linked with it is built again.
 if ! cmp -s out/libexports_c.a "$root/target/staticlib/libexports.a"; then

@@ -40,10 +40,12 @@ pub fn cover_step(
     steps::emit(l, ix, kind, references, &[&g.count_field(), g.faces, goal])
 }
 
-// The lowest step with this cover judgement, where its search is finished.
-pub fn finished(p: &Producer, g: Context, goal: &[u8]) -> Result<usize, usize>
-    requires { Known Faces goal.now }
-    ensures { Settled (steps_of p.now.ledger.now) (faces_of g.entry) (tree_of Faces goal.now) result }
+// The lowest step with this cover judgement, where its search is finished. It stays a function of its own: within the search,
+// its array would stand in each of up to 511 levels.
+#[inline(never)]
+pub fn finished(l: &[u8], ix: &[u32], g: Context, goal: &[u8]) -> Result<usize, usize>
+    requires { Indexed l.now ix.now × Known Faces goal.now }
+    ensures { Settled (steps_of l.now) (faces_of g.entry) (tree_of Faces goal.now) result }
 {
     let mut operands = [0u8; 2048];
     let i = 2 + g.faces.len();
@@ -51,7 +53,7 @@ pub fn finished(p: &Producer, g: Context, goal: &[u8]) -> Result<usize, usize>
     formula::copy(&g.count_field(), &mut operands, 0);
     formula::copy(g.faces, &mut operands, 2);
     formula::copy(goal, &mut operands, i);
-    index::finished(p.ledger, p.index, &operands[..m])
+    index::finished(l, ix, &operands[..m])
 }
 
 // The cover step of the goal ft.

@@ -6,6 +6,7 @@ ghost use Rattle.emission.specs.Emitting.{Emission, EmissionAs, Keeps, KeepsAs};
 use crate::grow;
 
 // The number of the step for a kind with these references and this predicate.
+#[inline(always)]
 fn emit_listed(
     l: &mut [u8],
     x: &mut [u32],
@@ -28,7 +29,9 @@ fn emit_listed(
     }
 }
 
-// The lowest step with the same predicate and operands; else one more, where there is room.
+// The lowest step with the same predicate and operands; else one more, where there is room. It is part of `steps::emit`, so that this is too large to be
+// made part of the emitters: there its array would stand in each level of their recursions. Rattle's own compiler heeds no `inline(never)`.
+#[inline(always)]
 pub fn emit_step(
     l: &mut [u8],
     x: &mut [u32],

@@ -11,7 +11,7 @@ ghost use Rattle.steps.specs.Trees.{Known};
 ghost use Rattle.steps.specs.Producing.{RunsFor};
 ghost use Rattle.contexts.specs.Contexts.{context_of, Sound, cut};
 ghost use Rattle.contexts.specs.Faces.{faces_of};
-ghost use Rattle.contexts.specs.Moves.{split_at};
+ghost use Rattle.contexts.specs.Moves.{split_at, Settled};
 ghost use Rattle.search.specs.Turns.{Parts, Split, full_by};
 
 use crate::turns;
@@ -44,6 +44,14 @@ fn is_full(e: Stop) -> bool
     }
 }
 
+// The lowest step with this cover judgement, where its search is finished. Ledger and index are only read.
+fn finished(p: &Producer, g: Context, goal: &[u8]) -> Result<usize, usize>
+    requires { Known Faces goal.now }
+    ensures { Settled (steps_of p.now.ledger.now) (faces_of g.entry) (tree_of Faces goal.now) result }
+{
+    contexts::finished(p.ledger, p.index, g, goal)
+}
+
 // Marks the search of step i as finished. The ledger is only read.
 fn mark(l: &mut [u8], ix: &mut [u32], i: usize)
     requires { Indexed l.old ix.old × (i < length (steps_of l.old)) × Finished (steps_of l.old) i }
@@ -69,7 +77,7 @@ pub fn cover(p: &mut Producer, g: Context, goal: &[u8]) -> Ran
     requires { Known Faces goal.now }
     ensures { RunsFor p.old (emit_cover (faces_of g.entry) (tree_of Faces goal.now)) result p.new }
 {
-    match contexts::finished(p, g, goal) {
+    match finished(p, g, goal) {
         Ok(i) => Ok(i),
         Err(_) => fresh(p, g, goal),
     }
@@ -95,6 +103,8 @@ fn take_turn(p: &mut Producer, g: Context, goal: &[u8]) -> Ran
 }
 
 // The search in the context of m faces that are front, and behind it those of g without its bytes from `at` up to `end`. Only here is a context made.
+// It asks for a finished search itself, as `cover` does: where only one place asked, a compiler that heeds no `inline(never)` would put the array of the
+// asking into each level of the search.
 #[cycle(search)]
 fn branch(
     p: &mut Producer,
@@ -114,7 +124,10 @@ fn branch(
         count: m,
         faces: &made[..k],
     };
-    cover(p, context, goal)
+    match finished(p, context, goal) {
+        Ok(i) => Ok(i),
+        Err(_) => fresh(p, context, goal),
+    }
 }
 
 // The assumption number i, which begins at `at`, is a fand: both parts in its place.

@@ -92,11 +92,14 @@ branch-leave-k-requires t c = let a = c.args in (c.requires.0, c.requires.1, ome
 pub branch-invariant_of-context : goal.branch-invariant_of-context
 branch-invariant_of-context t c = let a = c.args in record { sound = made-context a.front.now a.g.faces.now a.at a.end c.leave-k.ensures.1 c.requires.2 }
 
-pub branch-cover-requires : goal.branch-cover-requires
-branch-cover-requires t c = let a = c.args in (omega (arith, c.decreases, made-length a.front.now a.g.faces.now a.at a.end c.leave-k.ensures.1 c.requires.0 c.requires.1), c.requires.3)
+pub branch-fresh-requires : goal.branch-fresh-requires
+branch-fresh-requires t c = let a = c.args in (omega (arith, c.decreases, made-length a.front.now a.g.faces.now a.at a.end c.leave-k.ensures.1 c.requires.0 c.requires.1), c.requires.3)
 
-pub branch-returns : goal.branch-returns
-branch-returns t c = record { runs = made-runs _ _ c.leave-k.ensures.1 c.cover.ensures.runs; lent = c.cover.ensures.lent }
+pub branch-returns-in-Ok : goal.branch-returns-in-Ok
+branch-returns-in-Ok t c = record { runs = made-runs _ _ c.leave-k.ensures.1 (settled-runs (kept-of c.args.p.now) _ _ c.in-Ok.is c.finished.ensures); lent = (record { ledger = refl; index = refl }) }
+
+pub branch-returns-in-Err : goal.branch-returns-in-Err
+branch-returns-in-Err t c = record { runs = made-runs _ _ c.leave-k.ensures.1 c.fresh.ensures.runs; lent = c.fresh.ensures.lent }
 
 pub cover-returns-in-Ok : goal.cover-returns-in-Ok
 cover-returns-in-Ok t c = record { runs = settled-runs (kept-of c.args.p.now) _ _ c.in-Ok.is c.finished.ensures; lent = (record { ledger = refl; index = refl }) }
