@@ -170,13 +170,8 @@ def predicates():
     """The sorts of the operands by predicate."""
     table = rows("Judgements", 5)
     found = [(row[0], row[2].split(", ")) for row in table]
-    fields = re.findall(r"^ +(?:\d+|_) => (\w+),(?: // (\w+))?$", crate("kinds/src/table.rt").split("fn field_in")[1].split("\n}\n")[0], re.M)
-    theirs = []
-    for name, comment in fields:
-        if comment:
-            theirs.append((comment, []))
-        if name in SORTS:
-            theirs[-1][1].append(SORTS[name])
+    fields = re.findall(r"^ +(?:\d+|_) => &\[([\w, ]+)\], // (\w+)$", crate("kinds/src/table.rt").split("fn fields_of")[1].split("\n}\n")[0], re.M)
+    theirs = [(name, [SORTS[field] for field in listed.split(", ")]) for listed, name in fields]
     same("predicates", [name for name, _ in found], [name for name, _ in theirs])
     for ours, code in zip(found, theirs):
         same(f"operands of {ours[0]}", [sort.split()[0] for sort in ours[1]], code[1])
@@ -198,16 +193,13 @@ def rules(operands, ranges):
         found[int(kind)] = (name, [tree(p) for p in premises], tree(judgement))
     same("kinds", sorted(found), list(range(1, 76)))
     code = crate("kinds/src/table.rt")
-    names = re.findall(r"^    ([a-z0-9.-]+)(?:\\|\";)$", code.split('*b"\\\n')[1].split("\n\n")[0], re.M)
-    numbers = re.findall(r"^ +(\d+) => (\d+)_(\d)_(\d\d),", code, re.M)
-    places = [sum(map(len, names[:i])) for i in range(len(names))]
-    same("names in the code", len(names), 75)
-    table = [(int(k), int(at), int(count), int(p)) for k, at, count, p in numbers if k != "0"]
-    same("rows in the code", [row[0] for row in table], list(range(1, 76)))
+    table = re.findall(r'^ +Row\(b"([a-z0-9.-]+)", (\d), (\d+)\),$', code, re.M)
+    same("rows that the code says it has", re.findall(r"^static ROWS: \[Row; (\d+)\]", code, re.M), ["75"])
+    same("rows in the code", len(table), 75)
     order = list(operands)
-    for kind, at, count, predicate in table:
+    for kind, (named, count, predicate) in enumerate(table, 1):
         name, premises, judgement = found[kind]
-        same(f"kind {kind}", (name, len(premises), judgement[0]), (names[places.index(at)], count, order[predicate]))
+        same(f"kind {kind}", (name, len(premises), judgement[0]), (named, int(count), order[int(predicate)]))
     entries = re.findall(r'^ +entry "([^"]+)" (\d) p_(\w+)', crate("calculus/specs/Table.antt"), re.M)
     same("entries of the calculus", len(entries), 75)
     for kind, (name, count, predicate) in enumerate(entries, 1):
