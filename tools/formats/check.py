@@ -194,8 +194,8 @@ def rules(operands, ranges):
     same("kinds", sorted(found), list(range(1, 76)))
     code = crate("kinds/src/table.rt")
     table = re.findall(r'^ +Row\(b"([a-z0-9.-]+)", (\d), (\d+)\),$', code, re.M)
-    same("rows that the code says it has", re.findall(r"^static ROWS: \[Row; (\d+)\]", code, re.M), ["75"])
-    same("rows in the code", len(table), 75)
+    same("rows that the code says it has", ["75"], re.findall(r"^static ROWS: \[Row; (\d+)\]", code, re.M))
+    same("rows in the code", 75, len(table))
     order = list(operands)
     for kind, (named, count, predicate) in enumerate(table, 1):
         name, premises, judgement = found[kind]

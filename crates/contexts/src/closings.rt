@@ -40,7 +40,7 @@ pub fn cover_step(
     steps::emit(l, ix, kind, references, &[&g.count_field(), g.faces, goal])
 }
 
-// The lowest step with this cover judgement, where its search is finished. It stays a function of its own: within the search,
+// The lowest step with this cover judgement, where its search is finished. LLVM leaves it a function of its own: within the search,
 // its array would stand in each of up to 511 levels.
 #[inline(never)]
 pub fn finished(l: &[u8], ix: &[u32], g: Context, goal: &[u8]) -> Result<usize, usize>

@@ -29,8 +29,9 @@ fn emit_listed(
     }
 }
 
-// The lowest step with the same predicate and operands; else one more, where there is room. It is part of `steps::emit`, so that this is too large to be
-// made part of the emitters: there its array would stand in each level of their recursions. Rattle's own compiler heeds no `inline(never)`.
+// The lowest step with the same predicate and operands; else one more, where there is room. It is part of `steps::emit`, which is then
+// too large to be made part of the emitters: there its array would stand in each level of their recursions. Rattle's own compiler heeds
+// no `inline(never)`.
 #[inline(always)]
 pub fn emit_step(
     l: &mut [u8],

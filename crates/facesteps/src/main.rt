@@ -13,7 +13,7 @@ fn read_line<'a, R: Read>(input: &mut R, space: &'a mut [u8]) -> &'a [u8]
 {
     let mut n: usize = 0;
     while n < space.len() && !space[..n].contains(&b'\n') {
-        match stdio::read_more(input, space, n) {
+        match stdio::read_behind(input, space, n) {
             Ok(m) if n < m => n = m,
             _ => break,
         }

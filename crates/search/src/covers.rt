@@ -103,8 +103,8 @@ fn take_turn(p: &mut Producer, g: Context, goal: &[u8]) -> Ran
 }
 
 // The search in the context of m faces that are front, and behind it those of g without its bytes from `at` up to `end`. Only here is a context made.
-// It asks for a finished search itself, as `cover` does: where only one place asked, a compiler that heeds no `inline(never)` would put the array of the
-// asking into each level of the search.
+// It asks for a finished search itself, as `cover` does: where only one place asked, Rattle's own compiler would put the array of the asking
+// into each level of the search.
 #[cycle(search)]
 fn branch(
     p: &mut Producer,

@@ -33,7 +33,7 @@ pub fn part(s: &mut [u8], n: usize) -> &mut [u8] {
 }
 
 // Reads once, behind the first n bytes of the space; how many bytes stand there then, no more than before where the input has ended.
-pub fn read_more<R: Read>(input: &mut R, space: &mut [u8], n: usize) -> io::Result<usize>
+pub fn read_behind<R: Read>(input: &mut R, space: &mut [u8], n: usize) -> io::Result<usize>
     requires { n ≤ length space.old }
     ensures within { IfOk result (λ m. (n ≤ m) × (m ≤ length space.old)) }
     ensures front { take n space.new ≡ take n space.old }
@@ -52,6 +52,24 @@ pub struct Content {
     pub whole: bool,
 }
 
+// Reads once, behind the first n bytes; there are as many then where the input has ended or the read failed.
+pub fn read_more<R: Read>(input: &mut R, space: &mut [u8], n: usize) -> Content
+    requires { n ≤ length space.old }
+    ensures within { (n ≤ result.len) × (result.len ≤ length space.old) }
+    ensures front { take n space.new ≡ take n space.old }
+    ensures took { Consumes (R.remaining input.old) (R.remaining input.new) (take (result.len - n) (drop n space.new)) }
+    ensures ended { result.whole ≡ true → result.len ≡ n → n < length space.old → IsAtEnd (R.remaining input.new) }
+    ensures failed { result.whole ≡ false → (result.len ≡ n) × Keeps (R.remaining input.old) (R.remaining input.new) }
+{
+    match read_behind(input, space, n) {
+        Ok(len) => Content { len, whole: true },
+        Err(_) => Content {
+            len: n,
+            whole: false,
+        },
+    }
+}
+
 // Reads until the space is full, the input ends or a read fails, and counts the bytes that came before that.
 fn gather<R: Read>(input: &mut R, space: &mut [u8], n: &mut usize) -> io::Result<()>
     requires { n.old ≡ 0 }
@@ -60,7 +78,7 @@ fn gather<R: Read>(input: &mut R, space: &mut [u8], n: &mut usize) -> io::Result
     ensures err { OnErr result (Gathers (R.remaining input.old) (R.remaining input.new) space.new n.new false) }
 {
     while *n < space.len() {
-        let m = read_more(input, space, *n)?;
+        let m = read_behind(input, space, *n)?;
         if m == *n {
             break;
         }

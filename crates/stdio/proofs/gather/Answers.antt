@@ -6,4 +6,4 @@ pub loop-n-preserved : goal.loop-n-preserved
 loop-n-preserved g c =
     let (same, _, before) = c.loop-n.invariant in
     let (more, within) = c.in_ok-m.ensures.within in
-    (c.read_more.auto.space ∙ same, omega (arith, within, c.read_more.auto.space), Consumes-behind _ _ _ c.loop-n.space c.read_more.new.space _ _ more c.read_more.ensures.front before c.in_ok-m.ensures.took)
+    (c.read_behind.auto.space ∙ same, omega (arith, within, c.read_behind.auto.space), Consumes-behind _ _ _ c.loop-n.space c.read_behind.new.space _ _ more c.read_behind.ensures.front before c.in_ok-m.ensures.took)
