@@ -7,7 +7,15 @@ ghost use Rattle.std.proofs.lemmas.List.Edits.{sets};
 pub fn same(a: &[u8], b: &[u8]) -> bool
     ensures { result ≡ same_bytes a.now b.now }
 {
-    a == b
+    if a.len() != b.len() {
+        return false;
+    }
+    for i in 0..a.len() {
+        if a[i] != b[i] {
+            return false;
+        }
+    }
+    true
 }
 
 // Copies all of src into out from `at` on, where it fits.

@@ -77,3 +77,6 @@ walks_next {l} p e = record { led = p.led; among = omega (arith, p.inside, e.0);
 
 pub walks-forward : {l : List ℕ} {step at at' : ℕ} → Points l step at → at' ≡ place_of (steps_of l) (suc step) → (at < at') × (at' ≤ length l)
 walks-forward {l} {step} p e = let i = inside p in (omega (arith, e, p.place, place-next (steps_of l) step p.inside), omega (arith, e, i.whole))
+
+-- `Cursor::entry` names `points-entry` by this: a path in an attribute takes no dash.
+pub ruleset entries = (points-entry)

@@ -63,6 +63,7 @@ impl Cursor {
     }
 
     // What the table of kinds says of its kind.
+    #[tactic(auto, using(crate::proofs::PointLaws::entries))]
     pub fn entry(self, l: &[u8]) -> Entry
         requires { Points l.now self.step self.at }
         ensures { (result.references ≡ length (step_at (steps_of l.now) self.step).references) × (result.predicate ≡ number_of (predicate (judgement_at (steps_of l.now) self.step))) }

@@ -3,7 +3,7 @@ use Prim.Native.Nat.{ℕ, zero, suc, ◌+◌, ◌-◌, ◌≤◌}
 use native.Mathlib.Omega.{arith}
 use mathlib.Core.Path.{◌≡◌, refl, sym, ap, ap₂, ◌∙◌, subst}
 use mathlib.Core.List.{List, ◌∷◌, ◌++◌}
-use lib.ListN.{length, drop, set, length-set, length-append}
+use lib.ListN.{length, drop, set, length-append}
 use lib.Seq.{sets, length-sets}
 use native.Mathlib.Nat.{add-zero}
 use Rattle.formula.specs.declared.Sort.{Sort}
@@ -340,6 +340,9 @@ module _ {s : Sort} {l out : List ℕ} {b : ℕ} {c : Cursor} {k : ℕ} (w : Wor
   pub bare-refused : (kind_of s k ≡ Nullary → ⊥) → Parses (single s) (bare_at s l b c) l c out (Err NotAccepted) out
   unfolding kind_of
   bare-refused e = record { it = λ K. bare-other (node_named s (between b c.at l)) c.left K (run (tokens (drop c.at l))) (λ p. e (ap kind_by (node-is w) ∙ p)) }
+
+  pub bare-literal : kind_of s k ≡ Literal → Parses (single s) (bare_at s l b c) l c out (Err NotAccepted) out
+  bare-literal p = bare-refused (λ e. let z : ◌≡◌ {A = ℕ} 0 1 = cc in omega arith)
 
   module _ {out₁ : List ℕ} where
     pub bare-read : {r : Result Cursor Refusal} → kind_of s k ≡ Nullary → c.at ≤ length l → Heads k c out r out₁ → Parses (single s) (bare_at s l b c) l c out r out₁

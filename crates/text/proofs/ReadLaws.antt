@@ -7,12 +7,12 @@ use mathlib.Core.List.{List, ◌∷◌}
 use lib.ListN.{drop}
 use Rattle.formula.specs.Answers.{pick, same_bytes}
 use Rattle.refusals.specs.declared.Refusal.{Refusal}
-use Rattle.refusals.specs.declared.Refusal.TheVariants.{LargeDimension, NotAccepted}
+use Rattle.refusals.specs.declared.Refusal.TheVariants.{NotAccepted}
 use Rattle.refusals.specs.Refusals.{map}
 use Rattle.std.specs.Prelude.{Result, Ok, Err}
 use Rattle.text.specs.Tokens.{Token, tokens}
 use Rattle.text.specs.Words.{zero_word, succ-word}
-use Rattle.text.specs.Reading.{Item, number, number_list, close, succeeded, run}
+use Rattle.text.specs.Reading.{Item, number, number_list, close, run}
 use Rattle.text.specs.Scanning.{between, Lexes, Closes, NumberReader, number_at, number_list_at, close_at, next_at, Numerals}
 use Rattle.text.specs.declared.Token.{Token as Answered}
 use Rattle.text.specs.declared.Token.TheVariants.{Open, Close, Word, End}

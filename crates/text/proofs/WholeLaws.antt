@@ -39,6 +39,9 @@ not-end (Close e) h f = record { it = λ n. ap (λ (ts : List Token). run ts n [
 not-end (Word b e) h f = record { it = λ n. ap (λ (ts : List Token). run ts n []) h.it.0 }
 not-end End h f = absurd (f refl)
 
+pub at-close : {l : List ℕ} {c : Cursor} {t : Answered} {e : ℕ} → Lexes l c.at t → t ≡ Close e → Finishes l c (Err NotAccepted)
+at-close {t} h p = not-end t h (λ q. let z : ◌≡◌ {A = ℕ} 0 1 = cc in omega arith)
+
 pub at-end : {l : List ℕ} {c : Cursor} {t : Answered} → Lexes l c.at t → t ≡ End → Finishes l c (Ok c)
 unfolding run
 at-end {l} {c} h e = let g = subst (Lexes l c.at) e h in record { it = (λ n. ap (λ (ts : List Token). run ts n []) g.it, refl) }

@@ -33,6 +33,8 @@ fn bare(text: &[u8], sort: Sort, from: usize, c: Cursor, out: &mut [u8]) -> Resu
     };
     match formula::kind_of(sort, kind) {
         Kind::Nullary => head(kind, c, out),
+        // A literal has a dimension, so it stands in a list.
+        Kind::Literal => Err(Refusal::NotAccepted),
         _ => Err(Refusal::NotAccepted),
     }
 }

@@ -14,6 +14,8 @@ fn ended(text: &[u8], c: Cursor) -> Result<Cursor, Refusal>
 {
     match tokens::token_at(text, c.at) {
         Token::End => Ok(c),
+        // A parenthesis that closes no list.
+        Token::Close(_) => Err(Refusal::NotAccepted),
         _ => Err(Refusal::NotAccepted),
     }
 }
